@@ -1,0 +1,10 @@
+pub mod Accepted
+pub mod Assembled
+pub mod Contents
+pub mod Parts
+pub mod Records
+pub mod Spelled
+pub mod Testing
+pub mod Theorems
+pub mod Unique
+pub mod Writes

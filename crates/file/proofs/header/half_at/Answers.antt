@@ -1,0 +1,6 @@
+use borrow.Author.Needs.{needs}
+use native.Mathlib.Omega.{arith}
+use Rattle.file.proofs.header.half_at.Needs as need
+
+pub returns : need.returns
+returns c = record { value = search needs; bound = search needs; bytes = λ k. c .typed .bytes k .fits }

@@ -1,0 +1,1 @@
+// What a problem is: definitions that every layer above cites, with no code of their own.
