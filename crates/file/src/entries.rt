@@ -32,7 +32,7 @@ fn test_word<V: Scale>(word: u32, place: usize) -> Result<u32, FileFault>
 }
 
 // Whether each word of a section that begins at a place is an entry.
-pub fn test_words<V: Scale>(section: &[u8], count: usize, place: usize) -> Result<(), FileFault>
+pub(crate) fn test_words<V: Scale>(section: &[u8], count: usize, place: usize) -> Result<(), FileFault>
     requires few { ⌜ count ≤ 4096 ⌝ }
     requires low { ⌜ place ≤ 65536 ⌝ }
     requires long { ⌜ length (now section) ≡ 4 * count ⌝ }
@@ -45,7 +45,7 @@ pub fn test_words<V: Scale>(section: &[u8], count: usize, place: usize) -> Resul
 }
 
 // Stores the words of a section.
-pub fn load_words(words: &mut [u32], section: &[u8], count: usize)
+pub(crate) fn load_words(words: &mut [u32], section: &[u8], count: usize)
     requires few { ⌜ count ≤ 4096 ⌝ }
     requires room { ⌜ length (now words) ≡ 4096 ⌝ }
     requires long { ⌜ length (now section) ≡ 4 * count ⌝ }

@@ -62,14 +62,14 @@ pub impl fmt::Display for FileFault as FileFaultDisplay {
 }
 
 // A result of the problem, with the byte place that a refusal belongs to.
-pub trait AtByte<T>: Sized {
+pub(crate) trait AtByte<T>: Sized {
     ghost places: { Self → ℕ → Result T Fault };
 
     fn at_byte(self, place: usize) -> Result<T, FileFault>
         ensures { λ r. ⌜ r ≡ places self place ⌝ };
 }
 
-pub impl<T> AtByte<T> for Result<T, ProblemFault> as ProblemAtByte {
+pub(crate) impl<T> AtByte<T> for Result<T, ProblemFault> as ProblemAtByte {
     ghost places = { located };
 
     fn at_byte(self, place: usize) -> Result<T, FileFault> {

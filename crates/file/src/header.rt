@@ -21,7 +21,7 @@ const MOST_ENTRIES: usize = 4096;
 
 // How many variables, functions and entries a header tells.
 #[derive(Clone, Copy)]
-pub struct Header {
+pub(crate) struct Header {
     pub variables: usize,
     pub functions: usize,
     pub entries: usize,
@@ -131,7 +131,7 @@ fn check_places(bytes: &[u8], header: Header) -> Result<(), FileFault>
 
 impl Header {
     // How long a file with these counts is.
-    pub fn file_length(self) -> usize
+    pub(crate) fn file_length(self) -> usize
         requires { ⌜ (self .variables ≤ 64) × (self .functions ≤ 64) × (self .entries ≤ 4096) ⌝ }
         ensures { λ r. ⌜ r ≡ file-length (self .variables) (self .functions) (self .entries) ⌝ }
     {
@@ -139,7 +139,7 @@ impl Header {
     }
 
     // The header of a file of the scale with this code.
-    pub fn read(bytes: &[u8], code: u16) -> Result<Header, FileFault>
+    pub(crate) fn read(bytes: &[u8], code: u16) -> Result<Header, FileFault>
         ensures { λ r. ⌜ Answered refusal (header-tests code (now (bytes .entry))) (Told (now (bytes .entry))) r ⌝ }
     {
         let header = read_counts(bytes, code)?;

@@ -23,7 +23,7 @@ use tables::Tables;
 
 // What is found in a file that meets no test: a layout, and where how many entries stand.
 #[derive(Clone, Copy)]
-pub struct Found {
+pub(crate) struct Found {
     pub layout: Layout,
     pub place: usize,
     pub count: usize,

@@ -24,7 +24,7 @@ fn read_domain(layout: Layout, size: u8, place: usize) -> Result<Layout, FileFau
 }
 
 // A layout with the variables of a section of domains.
-pub fn read_domains(section: &[u8]) -> Result<Layout, FileFault>
+pub(crate) fn read_domains(section: &[u8]) -> Result<Layout, FileFault>
     ensures { λ r. ⌜ Answered refusal (each (length (now (section .entry))) (domain-tests (now (section .entry)))) (λ l. (domains-of l ≡ now (section .entry)) × (scopes-of l ≡ [])) r ⌝ }
 {
     let mut layout = Layout::empty();
@@ -79,7 +79,7 @@ fn read_scope(layout: Layout, bytes: &[u8], place: usize) -> Result<Layout, File
 }
 
 // The layout with the functions of a section of scopes.
-pub fn read_scopes(layout: Layout, section: &[u8], functions: usize) -> Result<Layout, FileFault>
+pub(crate) fn read_scopes(layout: Layout, section: &[u8], functions: usize) -> Result<Layout, FileFault>
     requires none { ⌜ scopes-of layout ≡ [] ⌝ }
     requires few { ⌜ functions ≤ 64 ⌝ }
     requires long { ⌜ length (now section) ≡ 5 * functions ⌝ }

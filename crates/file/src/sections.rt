@@ -7,14 +7,14 @@ ghost use Rattle.file.specs.View.{Told};
 use crate::header::Header;
 
 #[derive(Clone, Copy)]
-pub struct Sections<'a> {
+pub(crate) struct Sections<'a> {
     pub domains: &'a [u8],
     pub scopes: &'a [u8],
     pub entries: &'a [u8],
 }
 
 // Cuts the bytes into the sections that follow a header.
-pub fn cut<'a>(bytes: &'a [u8], header: Header) -> Sections<'a>
+pub(crate) fn cut<'a>(bytes: &'a [u8], header: Header) -> Sections<'a>
     requires { ⌜ Told (now bytes) header ⌝ }
     ensures domains { λ r. ⌜ now (r .domains) ≡ domains-part (now (bytes .entry)) ⌝ }
     ensures scopes { λ r. ⌜ now (r .scopes) ≡ scopes-part (now (bytes .entry)) ⌝ }

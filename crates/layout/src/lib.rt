@@ -6,4 +6,3 @@ mod scope;
 pub use fault::ProblemFault;
 pub use fault::ScaleProblemFault;
 pub use layout::Layout;
-pub use scope::Scope;

@@ -6,7 +6,7 @@ ghost use lib.ListN.{length, getD};
 mod packing;
 
 #[derive(Clone, Copy)]
-pub struct Scope {
+pub(crate) struct Scope {
     size: u8,
     variables: [u8; 4],
     ghost places: { length variables ≡ 4 },
@@ -16,7 +16,7 @@ pub struct Scope {
 
 impl Scope {
     // No variable.
-    pub const EMPTY: Scope = Scope {
+    pub(crate) const EMPTY: Scope = Scope {
         size: 0,
         variables: [0; 4],
     };

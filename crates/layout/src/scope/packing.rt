@@ -25,7 +25,7 @@ impl Scope {
     }
 
     // The variables, by place.
-    pub fn list(&self) -> &[u8]
+    pub(crate) fn list(&self) -> &[u8]
         ensures { λ r. ⌜ now r ≡ listed (now (self .entry)) ⌝ }
     {
         &self.variables[0..self.size as usize]
