@@ -11,7 +11,10 @@ mod tests {
 
     // Three variables of these sizes, and a function of all three.
     fn cube(a: usize, b: usize, c: usize) -> Result<Layout, ProblemFault> {
-        let layout = Layout::empty().with_variable(a)?.with_variable(b)?.with_variable(c)?;
+        let layout = Layout::empty()
+            .with_variable(a)?
+            .with_variable(b)?
+            .with_variable(c)?;
         layout.with_function(&[0, 1, 2])
     }
 
@@ -64,9 +67,15 @@ mod tests {
     fn short_buffer_is_declined_and_untouched() -> Result<(), Fail> {
         let tables = Tables::empty();
         let mut buffer = [7; 17];
-        check_eq(length_or_number(file::write::<Points>(&tables, &mut buffer[0..15])), 24)?;
+        check_eq(
+            length_or_number(file::write::<Points>(&tables, &mut buffer[0..15])),
+            24,
+        )?;
         check_eq(buffer[0], 7)?;
-        check_eq(length_or_number(file::write::<Points>(&tables, &mut buffer)), 16)?;
+        check_eq(
+            length_or_number(file::write::<Points>(&tables, &mut buffer)),
+            16,
+        )?;
         check_eq(buffer[0], 1)?;
         check_eq(buffer[16], 7)
     }

@@ -11,7 +11,7 @@ use Rattle.theory.specs.Problem.{Problem, variables, functions, scope-of, words
 use Rattle.file.specs.Bytes.{half, word, part}
 use Rattle.file.specs.Places.{scopes-place, entries-place, file-length}
 use Rattle.file.specs.Spelling.{Spells, scope-bytes, file-size}
-use Rattle.file.specs.Writing.{Written}
+use Rattle.file.specs.Inner.{Written}
 use Rattle.file.proofs.Parts.{part-part, word-part, half-part}
 use Rattle.file.proofs.Writes.{written-more, half-kept, word-kept, part-kept}
 

@@ -23,7 +23,7 @@ use Rattle.file.specs.Bytes.{half, word, part}
 use Rattle.file.specs.Places.{domains-place, scopes-place, entries-place, file-length}
 use Rattle.file.specs.Spelling.{Spells, AllEntries, scope-bytes}
 use Rattle.file.specs.Tests.{each, at-place, count-tests, place-tests, header-tests, layout-tests, domain-tests, scope-tests-at, sum-tests, record-at, scope-told, scopes-told, words-told, entry-tests, domains-part, scopes-part, entries-part, UnusedUsed}
-use Rattle.file.specs.View.{Told}
+use Rattle.file.specs.Inner.{Told}
 use Rattle.file.proofs.Parts.{part-length, part-part, word-part}
 use Rattle.file.proofs.Records.{bytes-are, told-length, told-at}
 use Rattle.file.proofs.Testing.{none-at, none-unplaced}

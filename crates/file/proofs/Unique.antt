@@ -1,26 +1,24 @@
 -- A problem is spelled by one file, and a file spells one problem. Assumes nothing.
 use mathlib.Core.Path.{_≡_, refl, sym, ap, ap₂, subst, _∙_}
-use mathlib.Core.List.{List, [], _++_, map}
+use mathlib.Core.List.{List, [], _++_}
 use mathlib.Core.Logic.{⊎-elim}
 use Prim.Native.Nat.{ℕ, zero, suc, _+_, _-_, _*_, _/_, _%_, _≤_, _<_}
 use native.Mathlib.Nat.{add-zero}
 use native.Mathlib.Omega.{arith}
 use lib.ListN.{length, getD, take, replicate}
-use Rattle.std.proofs.shelf.Lists.{ext-getD, getD-take, getD-drop, getD-map, length-map, take-at}
+use Rattle.std.proofs.shelf.Lists.{ext-getD, take-at}
 use Rattle.std.proofs.shelf.Tests.{cases-lt}
-use Rattle.theory.specs.Problem.{Problem, Function, variables, functions, scope-of, words-in-order}
+use Rattle.theory.specs.Problem.{Problem, variables, functions, scope-of, words-in-order}
 use Rattle.file.specs.Bytes.{half, word, part}
 use Rattle.file.specs.Places.{scopes-place, entries-place}
 use Rattle.file.specs.Spelling.{Spells, scope-bytes}
+use Rattle.file.proofs.Contents.{scopes-in, scopes-length, scope-at}
+use Rattle.file.proofs.Parts.{part-at}
 use Rattle.file.proofs.Theorems.{OneSpelling, OneProblem}
-
--- a byte of a part is the byte of the file at that place
-part-at : (bs : List ℕ) (k n p : ℕ) → p < n → getD (part bs k n) p 0 ≡ getD bs (k + p) 0
-part-at bs k n p h = rw (getD-take, getD-drop)
 
 -- equal parts have equal bytes
 part-byte : (bs cs : List ℕ) (k n p : ℕ) → p < n → part bs k n ≡ part cs k n → getD bs (k + p) 0 ≡ getD cs (k + p) 0
-part-byte bs cs k n p h same = sym (part-at bs k n p h) ∙ ap (λ (xs : List ℕ). getD xs p 0) same ∙ part-at cs k n p h
+part-byte bs cs k n p h same = sym (part-at bs k n p (k + p) h refl) ∙ ap (λ (xs : List ℕ). getD xs p 0) same ∙ part-at cs k n p (k + p) h refl
 
 module _ (bs cs : List ℕ) (low : (k : ℕ) → (getD bs k 0 < 256) × (getD cs k 0 < 256)) where
   -- equal 16-bit numbers have equal bytes
@@ -103,11 +101,6 @@ same-scope xs ys same =
     let rest : xs ++ replicate (4 - length xs) 255 ≡ ys ++ replicate (4 - length ys) 255 = cc in
     sym (take-at xs (replicate (4 - length xs) 255) (length ys) long) ∙ ap (take (length ys)) rest ∙ take-at ys (replicate (4 - length ys) 255) (length ys) refl
 
--- the scope at a place of the list is that of the function
-scope-at : (P : Problem) (f : ℕ) → f < functions P → getD (map (λ (g : Function). g .scope) (P .tables)) f [] ≡ scope-of P f
-unfolding scope-of
-scope-at P f h = getD-map (λ (g : Function). g .scope) (P .tables) f (record { scope = []; words = [] }) [] h
-
 -- two problems of one file
 module _ (code : ℕ) (bs : List ℕ) (P Q : Problem) (s : Spells code bs P) (t : Spells code bs Q) where
   -- they have the same numbers of variables, functions and words
@@ -126,12 +119,12 @@ module _ (code : ℕ) (bs : List ℕ) (P Q : Problem) (s : Spells code bs P) (t 
       same-scope (scope-of P f) (scope-of Q f)
       (sym (s .scopes f h) ∙ ap (λ (v : ℕ). part bs (scopes-place v + 5 * f) 5) as-many-variables ∙ t .scopes f (let many = as-many-functions in omega arith))
 
-  scopes-same : map (λ (f : Function). f .scope) (P .tables) ≡ map (λ (f : Function). f .scope) (Q .tables)
+  scopes-same : scopes-in P ≡ scopes-in Q
   scopes-same =
       let many = as-many-functions in
-      let of-P = length-map (P .tables) (λ (f : Function). f .scope) in
-      let of-Q = length-map (Q .tables) (λ (f : Function). f .scope) in
-      ext-getD [] (map (λ (f : Function). f .scope) (P .tables)) (map (λ (f : Function). f .scope) (Q .tables)) (omega arith)
+      let of-P = scopes-length P in
+      let of-Q = scopes-length Q in
+      ext-getD [] (scopes-in P) (scopes-in Q) (omega arith)
       (λ f h. scope-at P f (omega arith) ∙ scope-same f (omega arith) ∙ sym (scope-at Q f (omega arith)))
 
   words-same : words-in-order P ≡ words-in-order Q

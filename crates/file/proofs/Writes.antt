@@ -9,7 +9,7 @@ use lib.ListN.{length, getD, set}
 use Rattle.std.proofs.shelf.Lists.{ext-getD, getD-set-same, getD-set-other}
 use Rattle.std.proofs.shelf.Tests.{cases-lt}
 use Rattle.file.specs.Bytes.{half, word, part}
-use Rattle.file.specs.Writing.{Written}
+use Rattle.file.specs.Inner.{Written}
 use Rattle.file.proofs.Parts.{part-at, part-length}
 
 -- nothing is written yet

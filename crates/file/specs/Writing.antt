@@ -1,19 +1,13 @@
--- What a write of some bytes leaves. Assumes nothing.
+-- What writing a file leaves. Assumes nothing.
 use mathlib.Core.Path.{_≡_}
 use mathlib.Core.List.{List, [], _∷_}
-use mathlib.Core.Logic.{_⊎_}
-use Prim.Native.Nat.{ℕ, _≤_, _<_}
-use lib.ListN.{length, getD, take, drop}
+use Prim.Native.Nat.{ℕ, _<_}
+use lib.ListN.{length, take, drop}
 use Rattle.scale.specs.Rules.{Rules}
 use Rattle.theory.specs.Problem.{Problem}
 use Rattle.theory.specs.Refusals.{NoneFits}
 use Rattle.file.specs.Spelling.{Spells, Agree, AllEntries, file-size}
 use Rattle.file.specs.Tests.{file-tests}
-
--- Bytes were written from one place up to another, and nothing else was changed.
-pub record Written (before after : List ℕ) (from to : ℕ) : Type 0 where
-  pub outside : (k : ℕ) → (k < from) ⊎ (to ≤ k) → getD after k 0 ≡ getD before k 0
-  pub bytes : (k : ℕ) → from ≤ k → k < to → getD after k 0 < 256
 
 -- The test of a buffer that a problem is to be written to.
 abbrev pub write-tests : Problem → List ℕ → List ((ℕ × ℕ) × Type 0)

@@ -32,7 +32,11 @@ fn test_word<V: Scale>(word: u32, place: usize) -> Result<u32, FileFault>
 }
 
 // Whether each word of a section that begins at a place is an entry.
-pub(crate) fn test_words<V: Scale>(section: &[u8], count: usize, place: usize) -> Result<(), FileFault>
+pub(crate) fn test_words<V: Scale>(
+    section: &[u8],
+    count: usize,
+    place: usize,
+) -> Result<(), FileFault>
     requires few { ⌜ count ≤ 4096 ⌝ }
     requires low { ⌜ place ≤ 65536 ⌝ }
     requires long { ⌜ length (now section) ≡ 4 * count ⌝ }

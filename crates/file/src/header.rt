@@ -7,17 +7,14 @@ ghost use Rattle.file.specs.Bytes.{half};
 ghost use Rattle.file.specs.Numbers.{refusal};
 ghost use Rattle.file.specs.Places.{file-length};
 ghost use Rattle.file.specs.Tests.{code-tests, count-tests, place-tests, header-tests};
-ghost use Rattle.file.specs.View.{Counted, Told};
+ghost use Rattle.file.specs.Inner.{Counted, Told};
 use crate::fault::FileCause;
 use crate::fault::FileFault;
+use layout::MOST_FUNCTIONS;
+use layout::MOST_VARIABLES;
+use layout::MOST_WORDS;
 
 const HEADER: usize = 16;
-
-const MOST_VARIABLES: usize = 64;
-
-const MOST_FUNCTIONS: usize = 64;
-
-const MOST_ENTRIES: usize = 4096;
 
 // How many variables, functions and entries a header tells.
 #[derive(Clone, Copy)]
@@ -81,7 +78,7 @@ fn read_counts(bytes: &[u8], code: u16) -> Result<Header, FileFault>
         });
     }
     let entries = half_at(bytes, 6);
-    if entries > MOST_ENTRIES {
+    if entries > MOST_WORDS {
         return Err(FileFault {
             cause: FileCause::TooMany,
             place: 6,

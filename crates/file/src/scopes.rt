@@ -79,7 +79,11 @@ fn read_scope(layout: Layout, bytes: &[u8], place: usize) -> Result<Layout, File
 }
 
 // The layout with the functions of a section of scopes.
-pub(crate) fn read_scopes(layout: Layout, section: &[u8], functions: usize) -> Result<Layout, FileFault>
+pub(crate) fn read_scopes(
+    layout: Layout,
+    section: &[u8],
+    functions: usize,
+) -> Result<Layout, FileFault>
     requires none { ⌜ scopes-of layout ≡ [] ⌝ }
     requires few { ⌜ functions ≤ 64 ⌝ }
     requires long { ⌜ length (now section) ≡ 5 * functions ⌝ }

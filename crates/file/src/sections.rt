@@ -3,7 +3,7 @@ ghost use mathlib.Core.Path.{_≡_};
 ghost use Prim.Native.Nat.{_*_};
 ghost use lib.ListN.{length};
 ghost use Rattle.file.specs.Tests.{domains-part, scopes-part, entries-part};
-ghost use Rattle.file.specs.View.{Told};
+ghost use Rattle.file.specs.Inner.{Told};
 use crate::header::Header;
 
 #[derive(Clone, Copy)]

@@ -12,19 +12,12 @@ ghost use Rattle.layout.specs.View.{domains-of, scopes-of, words-in};
 use crate::fault::ProblemFault;
 use crate::layout::Layout;
 use crate::scope::Scope;
-
-// The sizes that a problem stays within.
-const MOST_VALUES: usize = 16;
-
-const MOST_VARIABLES: usize = 64;
-
-const MOST_PLACES: usize = 4;
-
-const MOST_FUNCTIONS: usize = 64;
-
-const MOST_IN_TABLE: usize = 1024;
-
-const MOST_WORDS: usize = 4096;
+use crate::sizes::MOST_FUNCTIONS;
+use crate::sizes::MOST_IN_TABLE;
+use crate::sizes::MOST_PLACES;
+use crate::sizes::MOST_VALUES;
+use crate::sizes::MOST_VARIABLES;
+use crate::sizes::MOST_WORDS;
 
 // Whether some variable of the scope is not among the first `count`.
 fn has_unknown(scope: &[usize], count: usize) -> bool

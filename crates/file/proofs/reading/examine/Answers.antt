@@ -14,7 +14,7 @@ use Rattle.file.specs.Bytes.{half, word}
 use Rattle.file.specs.Numbers.{refusal}
 use Rattle.file.specs.Places.{entries-place}
 use Rattle.file.specs.Tests.{each, header-tests, layout-tests, entry-tests, scopes-told, domains-part, scopes-part, entries-part}
-use Rattle.file.specs.View.{Counted, Holds}
+use Rattle.file.specs.Inner.{Counted, Holds}
 use Rattle.file.proofs.Spelled.{spelled, only-entries}
 use Rattle.file.proofs.Unique.{one-spelling}
 use Rattle.file.proofs.reading.examine.Needs as need

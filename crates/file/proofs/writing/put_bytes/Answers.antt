@@ -7,7 +7,7 @@ use lib.ListN.{length, getD, set}
 use lib.Seq.{getD-set-same, getD-set-other}
 use Rattle.std.proofs.shelf.Lists.{ext-getD}
 use Rattle.file.specs.Bytes.{part}
-use Rattle.file.specs.Writing.{Written}
+use Rattle.file.specs.Inner.{Written}
 use Rattle.file.proofs.Parts.{part-at, part-length}
 use Rattle.file.proofs.Writes.{written-byte}
 use Rattle.file.proofs.writing.put_bytes.Needs as need

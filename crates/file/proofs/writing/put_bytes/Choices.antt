@@ -1,7 +1,7 @@
 use mathlib.Core.Path.{_≡_}
 use Prim.Native.Nat.{ℕ, _+_, _<_}
 use lib.ListN.{getD}
-use Rattle.file.specs.Writing.{Written}
+use Rattle.file.specs.Inner.{Written}
 use Rattle.file.proofs.writing.put_bytes.Given as given
 
 abbrev pub Inv-loop-k : given.InvT-loop-k

@@ -4,7 +4,7 @@ use native.Mathlib.Omega.{arith}
 use borrow.Author.Count.{below-more}
 use lib.ListN.{length, getD}
 use Rattle.file.specs.Bytes.{part}
-use Rattle.file.specs.Writing.{Written}
+use Rattle.file.specs.Inner.{Written}
 use Rattle.file.proofs.Writes.{written-more, half-kept, half-told}
 use Rattle.file.proofs.writing.put_numbers.Needs as need
 

@@ -2,7 +2,7 @@ use mathlib.Core.Path.{_≡_}
 use Prim.Native.Nat.{ℕ, _*_, _<_}
 use lib.ListN.{getD}
 use Rattle.file.specs.Bytes.{half}
-use Rattle.file.specs.Writing.{Written}
+use Rattle.file.specs.Inner.{Written}
 use Rattle.file.proofs.writing.put_numbers.Given as given
 
 abbrev pub Inv-loop-j : given.InvT-loop-j

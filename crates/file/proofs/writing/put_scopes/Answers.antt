@@ -7,7 +7,7 @@ use lib.ListN.{length}
 use Rattle.layout.specs.View.{scope-in}
 use Rattle.file.specs.Bytes.{part}
 use Rattle.file.specs.Spelling.{scope-bytes}
-use Rattle.file.specs.Writing.{Written}
+use Rattle.file.specs.Inner.{Written}
 use Rattle.file.proofs.Records.{bytes-length}
 use Rattle.file.proofs.Writes.{written-more, part-kept}
 use Rattle.file.proofs.writing.put_scopes.Needs as need

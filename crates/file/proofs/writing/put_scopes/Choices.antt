@@ -3,7 +3,7 @@ use Prim.Native.Nat.{ℕ, _+_, _*_, _<_}
 use Rattle.layout.specs.View.{scope-in}
 use Rattle.file.specs.Bytes.{part}
 use Rattle.file.specs.Spelling.{scope-bytes}
-use Rattle.file.specs.Writing.{Written}
+use Rattle.file.specs.Inner.{Written}
 use Rattle.file.proofs.writing.put_scopes.Given as given
 
 abbrev pub Inv-loop-f : given.InvT-loop-f

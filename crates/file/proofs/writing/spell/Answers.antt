@@ -10,7 +10,7 @@ use Rattle.tables.specs.View.{problem-of}
 use Rattle.tables.proofs.Ordered.{functions-length, scope-from, within-sizes}
 use Rattle.file.specs.Bytes.{half, part, word}
 use Rattle.file.specs.Spelling.{scope-bytes, file-size}
-use Rattle.file.specs.Writing.{Written}
+use Rattle.file.specs.Inner.{Written}
 use Rattle.file.proofs.Accepted.{spelled-accepted}
 use Rattle.file.proofs.Assembled.{numbers-of, assembled, later-kept}
 use Rattle.file.proofs.Unique.{one-problem}
