@@ -27,8 +27,8 @@ pub enum ProblemFault {
 pub impl From<ScaleFault> for ProblemFault as ScaleProblemFault {
     ghost converts = { λ f r. r ≡ of-scale f };
 
-    fn from(fault: ScaleFault) -> ProblemFault {
-        ProblemFault::Scale(fault)
+    fn from(cause: ScaleFault) -> ProblemFault {
+        ProblemFault::Scale(cause)
     }
 }
 
