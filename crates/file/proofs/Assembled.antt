@@ -1,5 +1,5 @@
 -- A file that is written section by section. Assumes nothing.
-use mathlib.Core.Path.{_≡_, refl, sym, ap, subst, _∙_}
+use mathlib.Core.Path.{_≡_, sym, ap, subst, _∙_}
 use mathlib.Core.List.{List, _∷_, []}
 use mathlib.Core.Logic.{inr, ⊎-elim}
 use Prim.Native.Nat.{ℕ, _+_, _*_, _≤_, _<_}
@@ -9,11 +9,11 @@ use Rattle.std.proofs.shelf.Lists.{ext-getD, getD-drop, getD-past, getD-take, l
 use Rattle.std.proofs.shelf.Tests.{cases-lt}
 use Rattle.theory.specs.Problem.{Problem, variables, functions, scope-of, words-in-order}
 use Rattle.file.specs.Bytes.{half, word, part}
-use Rattle.file.specs.Places.{scopes-place, entries-place, file-length}
+use Rattle.file.specs.Places.{scopes-place, entries-place}
 use Rattle.file.specs.Spelling.{Spells, scope-bytes, file-size}
 use Rattle.file.specs.Inner.{Written}
 use Rattle.file.proofs.Parts.{part-part, word-part, half-part}
-use Rattle.file.proofs.Writes.{written-more, half-kept, word-kept, part-kept}
+use Rattle.file.proofs.Writes.{written-more, half-kept, part-kept}
 
 -- the numbers of the header of a problem's file
 abbrev pub numbers-of : ℕ → Problem → List ℕ

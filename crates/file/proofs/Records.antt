@@ -11,7 +11,7 @@ use Rattle.std.proofs.shelf.Lists.{ext-getD, getD-append-left, getD-append-righ
 use Rattle.std.proofs.shelf.Tests.{cases-lt}
 use Rattle.std.specs.declared.result.Result.{Result}
 use Rattle.std.specs.declared.result.Result.the-variants.{Ok, Err}
-use Rattle.theory.specs.Refusals.{First, NoneFits, Answered, function-tests}
+use Rattle.theory.specs.Refusals.{Answered, function-tests}
 use Rattle.layout.specs.Numbers.{problem-number}
 use Rattle.layout.specs.declared.fault.ProblemFault.{ProblemFault}
 use Rattle.file.specs.Numbers.{refusal, located}

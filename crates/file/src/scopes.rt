@@ -1,8 +1,8 @@
 // The domains and the scopes of a file.
 ghost use mathlib.Core.Path.{_≡_};
 ghost use mathlib.Core.List.{[], _∷_, _++_};
-ghost use Prim.Native.Nat.{ℕ, _+_, _*_, _≤_, _<_};
-ghost use lib.ListN.{length, getD};
+ghost use Prim.Native.Nat.{_*_, _≤_};
+ghost use lib.ListN.{length};
 ghost use Rattle.std.specs.Orderings.{Decides};
 ghost use Rattle.theory.specs.Refusals.{Answered, variable-tests, function-tests};
 ghost use Rattle.layout.specs.View.{domains-of, scopes-of, words-in};

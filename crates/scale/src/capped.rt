@@ -1,10 +1,5 @@
-ghost use mathlib.Core.Path.{_≡_};
-ghost use mathlib.Core.Bool.{Bool, true, false};
-ghost use Prim.Native.Nat.{ℕ, _+_, _-_, _*_, _<_, _≤_};
-ghost use lib.Dec.{leb};
-ghost use lib.IntN.{ℤ, pos, _+ℤ_};
+// Capped: numbers from 0 to 1,000, which joining adds up to 1,000.
 ghost use Rattle.scale.specs.Levels.{Level, level, capped};
-ghost use mathlib.Core.Bool.{cond};
 use crate::Measuring;
 use crate::Scale;
 use crate::ScaleFault;

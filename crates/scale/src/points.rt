@@ -1,9 +1,8 @@
+// Points: whole numbers, which joining adds.
 ghost use mathlib.Core.Path.{_≡_};
-ghost use mathlib.Core.Bool.{Bool, true, false};
-ghost use Prim.Native.Nat.{ℕ, _+_, _-_, _*_, _<_, _≤_};
-ghost use lib.IntN.{ℤ, pos, _+ℤ_, _-ℤ_};
+ghost use Prim.Native.Nat.{_*_};
+ghost use lib.IntN.{ℤ, _+ℤ_, _-ℤ_};
 ghost use Rattle.std.specs.Numbers.{saturated};
-ghost use lib.Signed.{leZ};
 ghost use Rattle.scale.specs.Points.{points, Span};
 use crate::Measuring;
 use crate::Scale;

@@ -1,7 +1,7 @@
+// Ranked: two numbers, of which the first counts first; joining adds both.
 ghost use mathlib.Core.Path.{_≡_};
-ghost use mathlib.Core.Bool.{Bool, true, false};
-ghost use Prim.Native.Nat.{ℕ, _+_, _-_, _*_, _/_, _%_, _<_, _≤_};
-ghost use lib.IntN.{ℤ, pos, _+ℤ_, _-ℤ_};
+ghost use Prim.Native.Nat.{_*_, _/_, _%_};
+ghost use lib.IntN.{ℤ, _+ℤ_, _-ℤ_};
 ghost use Rattle.std.specs.Numbers.{saturated};
 ghost use mir.Syntax.{w16};
 ghost use mir.Val.{toZ};

@@ -1,10 +1,5 @@
-ghost use mathlib.Core.Path.{_≡_};
-ghost use mathlib.Core.Bool.{Bool, true, false};
-ghost use Prim.Native.Nat.{ℕ, _+_, _-_, _*_, _<_, _≤_};
-ghost use lib.Dec.{leb};
-ghost use lib.IntN.{ℤ, pos, _+ℤ_};
+// Weakest: numbers from 0 to 1,000, of which joining gives the lower.
 ghost use Rattle.scale.specs.Levels.{Level, level, weakest};
-ghost use mathlib.Core.Bool.{cond};
 use crate::Scale;
 use crate::ScaleFault;
 

@@ -8,9 +8,8 @@ use lib.Seq.{take-add}
 use Rattle.std.proofs.shelf.Lists.{length-drop, length-take-le, getD-take}
 use Rattle.std.proofs.shelf.Sums.{sumBy-cons}
 use Rattle.std.specs.shelf.Lists.{sumBy, joined}
-use Rattle.theory.specs.Problem.{Problem, Function, words-in-order, variables, functions, size, scope-of, at, function, product, Sound}
+use Rattle.theory.specs.Problem.{Function, words-in-order, variables, functions, size, scope-of, at, function, product, Sound}
 use Rattle.theory.specs.Sizes.{Fits, combinations, all-words}
-use Rattle.layout.specs.declared.layout.Layout.{Layout}
 use Rattle.layout.proofs.Shapes.{known-here, distinct-here}
 use Rattle.layout.specs.View.{domains-of, scopes-of, words-in}
 use Rattle.tables.specs.declared.tables.Tables.{Tables}

@@ -1,7 +1,7 @@
 // A scope from a list of variables, and back.
 ghost use mathlib.Core.Path.{_≡_};
-ghost use Prim.Native.Nat.{ℕ, _<_, _≤_};
-ghost use lib.ListN.{length, getD};
+ghost use Prim.Native.Nat.{_≤_};
+ghost use lib.ListN.{length};
 ghost use Rattle.theory.specs.Sizes.{Known};
 ghost use Rattle.layout.specs.Scopes.{listed, NoneTwice};
 use crate::scope::Scope;

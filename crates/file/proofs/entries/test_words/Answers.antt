@@ -1,10 +1,9 @@
-use mathlib.Core.Path.{_≡_, subst}
-use mathlib.Core.List.{List}
+use mathlib.Core.Path.{subst}
 use Prim.Native.Nat.{ℕ, _+_, _*_}
 use Rattle.std.proofs.shelf.Results.{err-from-errBy}
 use Rattle.theory.specs.Refusals.{First, NoneFits, word-tests}
 use Rattle.file.specs.Numbers.{refusal}
-use Rattle.file.specs.Tests.{each, at-place, entry-tests}
+use Rattle.file.specs.Tests.{at-place, entry-tests}
 use Rattle.file.proofs.Testing.{none-each, none-more, first-each}
 use Rattle.file.proofs.entries.test_words.Needs as need
 

@@ -1,5 +1,4 @@
 use borrow.Author.Needs.{needs}
-use native.Mathlib.Omega.{arith}
 use Rattle.file.proofs.header.half_at.Needs as need
 
 pub returns : need.returns

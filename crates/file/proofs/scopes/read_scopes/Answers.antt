@@ -11,7 +11,7 @@ use Rattle.theory.specs.Sizes.{combinations}
 use Rattle.layout.specs.declared.layout.Layout.{Layout}
 use Rattle.layout.specs.View.{domains-of, scopes-of, words-in}
 use Rattle.file.specs.Numbers.{refusal}
-use Rattle.file.specs.Tests.{each, record-tests, record-at, scope-tests-at, scope-told, scopes-told, words-told}
+use Rattle.file.specs.Tests.{record-tests, record-at, scope-tests-at, scope-told, scopes-told, words-told}
 use Rattle.file.proofs.Testing.{none-each, none-more, first-each}
 use Rattle.file.proofs.scopes.read_scopes.Needs as need
 

@@ -8,7 +8,7 @@ use Rattle.layout.specs.View.{domains-of, scopes-of, scope-in}
 use Rattle.tables.specs.declared.tables.Tables.{Tables}
 use Rattle.tables.specs.View.{problem-of}
 use Rattle.tables.proofs.Ordered.{functions-length, scope-from, within-sizes}
-use Rattle.file.specs.Bytes.{half, part, word}
+use Rattle.file.specs.Bytes.{part, word}
 use Rattle.file.specs.Spelling.{scope-bytes, file-size}
 use Rattle.file.specs.Inner.{Written}
 use Rattle.file.proofs.Accepted.{spelled-accepted}

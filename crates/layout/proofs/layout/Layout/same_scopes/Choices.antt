@@ -1,7 +1,6 @@
 use mathlib.Core.Path.{_≡_}
-use Prim.Native.Nat.{ℕ, _<_, _≤_}
-use lib.ListN.{length}
-use Rattle.layout.specs.View.{scopes-of, scope-in}
+use Prim.Native.Nat.{ℕ, _<_}
+use Rattle.layout.specs.View.{scope-in}
 use Rattle.layout.proofs.layout.Layout.same_scopes.Given as given
 
 abbrev pub Inv-loop-function : given.InvT-loop-function

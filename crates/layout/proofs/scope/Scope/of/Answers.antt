@@ -1,8 +1,6 @@
-use mathlib.Core.Path.{_≡_}
 use native.Mathlib.Omega.{arith}
-use lib.ListN.{length, getD, take}
+use lib.ListN.{length}
 use Rattle.std.proofs.shelf.Lists.{ext-getD, getD-take, length-take-le}
-use Rattle.std.proofs.shelf.Lists.{length-take}
 use Rattle.layout.proofs.scope.Scope.of.Needs as need
 
 pub returns : need.returns
