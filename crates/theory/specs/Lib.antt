@@ -1,3 +1,14 @@
+pub mod Joins
 pub mod Problem
+pub mod Graphs
+pub mod Keeping
+pub mod Kept
+pub mod Links
+pub mod Cut
+pub mod Bounded
+pub mod Forest
+pub mod Messages
+pub mod GraphTheorems
+pub mod Theorems
 pub mod Sizes
 pub mod Refusals

@@ -1,10 +1,14 @@
--- A problem: variables with finite domains, and functions of some of them, each given by its table. Assumes nothing.
+-- A problem: variables with finite domains, and functions of some of them, each given by its table. Its plans and their scores.
+-- Assumes nothing.
 use mathlib.Core.Path.{_≡_}
+use mathlib.Core.Bool.{cond}
 use mathlib.Core.List.{List, [], _∷_, map}
 use Prim.Native.Nat.{ℕ, _+_, _*_, _≤_, _<_}
 use lib.ListN.{length, getD}
+use lib.Dec.{eqb}
 use Rattle.std.specs.shelf.Lists.{joined}
 use Rattle.scale.specs.Rules.{Rules}
+use Rattle.theory.specs.Joins.{joins}
 
 -- A function has a scope of variables and a table of words, one for each combination of their values.
 pub record Function : Type 0 where
@@ -16,6 +20,10 @@ pub record Problem : Type 0 where
   pub domains : List ℕ
   pub tables : List Function
 
+-- A plan gives each variable a value.
+abbrev pub Plan : Type 0
+Plan = ℕ → ℕ
+
 abbrev pub product : List ℕ → ℕ
 product [] = 1
 product (s ∷ sizes) = s * product sizes
@@ -25,6 +33,10 @@ abbrev pub index : List ℕ → List ℕ → ℕ
 index [] xs = 0
 index (s ∷ sizes) [] = 0
 index (s ∷ sizes) (x ∷ xs) = x * product sizes + index sizes xs
+
+-- the plan y, but with the value x for the variable v
+abbrev pub put : Plan → ℕ → ℕ → Plan
+put y v x u = cond (eqb u v) x (y u)
 
 module _ (P : Problem) where
   -- how many variables and how many functions there are
@@ -51,9 +63,17 @@ module _ (P : Problem) where
   unfoldable pub at : ℕ → ℕ → ℕ
   at f p = getD (scope-of f) p 0
 
+  -- where the entry at a plan stands in the table of the function f
+  unfoldable pub position : ℕ → Plan → ℕ
+  position f y = index (map size (scope-of f)) (map y (scope-of f))
+
   -- the words of all tables, one table after the other
   abbrev pub words-in-order : List ℕ
   words-in-order = joined (λ (f : Function). f .words) (P .tables)
+
+  -- each variable has a value of its domain
+  abbrev pub Valid : Plan → Type 0
+  Valid y = (v : ℕ) → v < variables → y v < size v
 
   -- No domain is empty, each function has one to four places with different variables, and its table has a word for each combination.
   pub record Sound : Type 0 where
@@ -63,6 +83,18 @@ module _ (P : Problem) where
     pub known : (f p : ℕ) → f < functions → p < arity f → at f p < variables
     pub distinct : (f p p′ : ℕ) → f < functions → p < arity f → p′ < arity f → at f p ≡ at f p′ → p ≡ p′
     pub full : (f : ℕ) → f < functions → length (function f .words) ≡ product (map size (scope-of f))
+
+module _ {E : Type 0} (R : Rules E) (P : Problem) where
+  -- what the word of the function f at a plan reads as
+  unfoldable pub entry : ℕ → Plan → E
+  entry f y = R .reads (getD (function P f .words) (position P f y) 0)
+
+  -- what each function gives at a plan, joined in number order
+  abbrev pub score-by : (ℕ → Plan → E) → Plan → E
+  score-by table y = joins R (functions P) (λ f. table f y)
+
+  abbrev pub score : Plan → E
+  score = score-by entry
 
 -- Two problems are the same if domain sizes, scopes and read entries agree in order.
 pub record Same {E : Type 0} (R : Rules E) (P Q : Problem) : Type 0 where
