@@ -18,6 +18,10 @@ scopes-of l = map listed (take (l .functions) (l .scopes))
 abbrev pub words-in : Layout → ℕ
 words-in l = sumBy (combinations (domains-of l)) (scopes-of l)
 
+-- where the table of a function begins: how many words the tables before it have together
+abbrev pub start-in : Layout → ℕ → ℕ
+start-in l f = sumBy (combinations (domains-of l)) (take f (scopes-of l))
+
 -- the variables of a function by place; none where there is no such function
 abbrev pub scope-in : Layout → ℕ → List ℕ
 scope-in l f = getD (scopes-of l) f []

@@ -1,19 +1,19 @@
 -- The functions whose tables lie one after the other. Assumes nothing.
 use mathlib.Core.Path.{_≡_, refl, sym, ap, subst, _∙_}
 use mathlib.Core.List.{List, [], _∷_, _++_, map}
-use Prim.Native.Nat.{ℕ, zero, suc, _<_, _≤_}
+use Prim.Native.Nat.{ℕ, zero, suc, _+_, _-_, _<_, _≤_}
 use native.Mathlib.Omega.{arith}
 use lib.ListN.{length, getD, take, drop}
 use lib.Seq.{take-add}
-use Rattle.std.proofs.shelf.Lists.{length-drop, length-take-le, getD-take}
-use Rattle.std.proofs.shelf.Sums.{sumBy-cons}
+use Rattle.std.proofs.shelf.Lists.{drop-drop, length-drop, length-take-le, getD-take}
+use Rattle.std.proofs.shelf.Sums.{sumBy-cons, sumBy-more, sumBy-take-le}
 use Rattle.std.specs.shelf.Lists.{sumBy, joined}
 use Rattle.theory.specs.Problem.{Function, words-in-order, variables, functions, size, scope-of, at, function, product, Sound}
 use Rattle.theory.specs.Sizes.{Fits, combinations, all-words}
 use Rattle.layout.proofs.Shapes.{known-here, distinct-here}
-use Rattle.layout.specs.View.{domains-of, scopes-of, words-in}
+use Rattle.layout.specs.View.{domains-of, scopes-of, words-in, start-in}
 use Rattle.tables.specs.declared.tables.Tables.{Tables}
-use Rattle.tables.specs.View.{functions-from, problem-of}
+use Rattle.tables.specs.View.{functions-from, problem-of, table-of}
 
 -- the words of one function after another are the first words
 joined-is : (domains : List ℕ) (scopes : List (List ℕ)) (ws : List ℕ) → joined (λ (f : Function). f .words) (functions-from domains scopes ws) ≡ take (sumBy (combinations domains) scopes) ws
@@ -45,6 +45,16 @@ table-from domains (s ∷ scopes) ws (suc f) h enough =
     let rest = length-drop (combinations domains s) ws in
     table-from domains scopes (drop (combinations domains s) ws) f (omega arith) (omega arith)
 
+-- each table begins where the tables before it end
+words-at : (domains : List ℕ) (scopes : List (List ℕ)) (ws : List ℕ) (f : ℕ) → f < length scopes →
+    getD (functions-from domains scopes ws) f (record { scope = []; words = [] }) .words ≡ take (combinations domains (getD scopes f [])) (drop (sumBy (combinations domains) (take f scopes)) ws)
+words-at domains [] ws f h = absurd (omega arith)
+words-at domains (s ∷ scopes) ws zero h = refl
+words-at domains (s ∷ scopes) ws (suc f) h =
+    let c = combinations domains in
+    words-at domains scopes (drop (c s) ws) f (omega arith)
+    ∙ ap (take (c (getD scopes f []))) (drop-drop (sumBy c (take f scopes)) (c s) ws ∙ ap (λ (n : ℕ). drop n ws) (sym (sumBy-cons c s (take f scopes))))
+
 pub words-from : (domains : List ℕ) (scopes : List (List ℕ)) (ws : List ℕ) → sumBy (combinations domains) scopes ≤ length ws →
     all-words (functions-from domains scopes ws) ≡ sumBy (combinations domains) scopes
 unfolding all-words
@@ -63,7 +73,7 @@ scopes-from domains (s ∷ scopes) ws = ap (λ (ss : List (List ℕ)). s ∷ ss)
 module _ (t : Tables) where
   open Tables t using (layout as l)
 
-  scope-is : (f : ℕ) → scope-of (problem-of t) f ≡ getD (scopes-of l) f []
+  pub scope-is : (f : ℕ) → scope-of (problem-of t) f ≡ getD (scopes-of l) f []
   unfolding scope-of
   scope-is f = scope-from (domains-of l) (scopes-of l) (t .words) f
 
@@ -83,6 +93,21 @@ module _ (t : Tables) where
 
   table-is : (f : ℕ) → f < length (scopes-of l) → length (function (problem-of t) f .words) ≡ combinations (domains-of l) (getD (scopes-of l) f [])
   table-is f h = table-from (domains-of l) (scopes-of l) (t .words) f h enough
+
+  -- a table has as many words as there are combinations, up to where the next one begins
+  table-end : (f : ℕ) → f < length (scopes-of l) → start-in l (f + 1) ≡ start-in l f + combinations (domains-of l) (getD (scopes-of l) f [])
+  table-end f h = sumBy-more (combinations (domains-of l)) (scopes-of l) f [] h
+
+  pub table-within : (f : ℕ) → f < length (scopes-of l) → (start-in l f ≤ start-in l (f + 1)) × (start-in l (f + 1) ≤ 4096)
+  table-within f h =
+      let first = sumBy-take-le (combinations (domains-of l)) (scopes-of l) (f + 1) in
+      let few = l .few in
+      (omega (arith, table-end f h), omega arith)
+
+  pub table-at : (f : ℕ) → f < length (scopes-of l) → take (start-in l (f + 1) - start-in l f) (drop (start-in l f) (t .words)) ≡ table-of t f
+  table-at f h =
+      let long : start-in l (f + 1) - start-in l f ≡ combinations (domains-of l) (getD (scopes-of l) f []) = omega (arith, table-end f h) in
+      ap (λ (n : ℕ). take n (drop (start-in l f) (t .words))) long ∙ sym (words-at (domains-of l) (scopes-of l) (t .words) f h)
 
   sound : Sound (problem-of t)
   unfolding at size

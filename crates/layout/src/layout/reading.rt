@@ -9,7 +9,7 @@ ghost use Rattle.theory.specs.Sizes.{combinations, Known};
 ghost use Rattle.std.specs.Orderings.{Decides};
 ghost use Rattle.std.specs.Options.{Cases as BySome};
 ghost use Rattle.layout.specs.Scopes.{listed, sizes-of, values-of, InDomains};
-ghost use Rattle.layout.specs.View.{domains-of, scopes-of, words-in, scope-in};
+ghost use Rattle.layout.specs.View.{domains-of, scopes-of, words-in, scope-in, start-in};
 use crate::layout::Layout;
 use crate::scope::Scope;
 
@@ -61,6 +61,23 @@ impl Layout {
         ensures { λ r. ⌜ r ≡ words-in (now (self .entry)) ⌝ }
     {
         self.starts[self.functions]
+    }
+
+    fn start_or_end(&self, function: usize) -> usize
+        ensures { λ r. ⌜ r ≡ start-in (now (self .entry)) function ⌝ }
+    {
+        if function < self.functions {
+            self.starts[function]
+        } else {
+            self.words()
+        }
+    }
+
+    // Where the table of a function begins among the words of all; past the last function, where its table ends.
+    pub fn start(&self, function: usize) -> usize
+        ensures { λ r. ⌜ r ≡ start-in (now (self .entry)) function ⌝ }
+    {
+        self.start_or_end(function)
     }
 
     // How many links there are: one for each place of each function.

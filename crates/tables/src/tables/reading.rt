@@ -1,9 +1,11 @@
 // What tables hold.
 ghost use mathlib.Core.Path.{_≡_};
+ghost use Prim.Native.Nat.{_+_, _<_};
+ghost use lib.ListN.{length};
 ghost use Rattle.theory.specs.Problem.{words-in-order};
 ghost use Rattle.theory.specs.Sizes.{Fits};
-ghost use Rattle.layout.specs.View.{words-in};
-ghost use Rattle.tables.specs.View.{problem-of, no-problem};
+ghost use Rattle.layout.specs.View.{scopes-of, words-in, start-in};
+ghost use Rattle.tables.specs.View.{problem-of, table-of, no-problem};
 use crate::tables::Tables;
 use layout::Layout;
 
@@ -32,5 +34,30 @@ impl Tables {
         ensures fits { λ _. ⌜ Fits (problem-of (now (self .entry))) ⌝ }
     {
         &self.words[0..count]
+    }
+
+    // The words of the table of a function; none where there is no such function.
+    pub fn table(&self, function: usize) -> &[u32]
+        ensures { λ r. ⌜ now r ≡ table-of (now (self .entry)) function ⌝ }
+    {
+        if function < self.layout.functions() {
+            self.between(
+                function,
+                self.layout.start(function),
+                self.layout.start(function + 1),
+            )
+        } else {
+            &[]
+        }
+    }
+
+    // The words of a table by where it begins and where the next one does.
+    fn between(&self, function: usize, start: usize, end: usize) -> &[u32]
+        requires known { ⌜ function < length (scopes-of (now self .layout)) ⌝ }
+        requires start { ⌜ start ≡ start-in (now self .layout) function ⌝ }
+        requires end { ⌜ end ≡ start-in (now self .layout) (function + 1) ⌝ }
+        ensures { λ r. ⌜ now r ≡ table-of (now (self .entry)) function ⌝ }
+    {
+        &self.words[start..end]
     }
 }
