@@ -1,0 +1,3 @@
+pub mod FactorGraph
+pub mod Along
+pub mod Labelled
