@@ -1,0 +1,4 @@
+pub mod Hung
+pub mod Kept
+pub mod Growing
+pub mod Forest
