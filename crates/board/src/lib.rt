@@ -1,4 +1,6 @@
 // A board: a lent slice of cells in rows of 16. It serves every kind of cell.
+#![tactic(auto)]
+
 ghost use Rattle.std.specs.Prelude.{◌≡◌, ℕ, ◌+◌, ◌*◌, ◌/◌, ◌<◌, ◌≤◌, length, take, drop, replicate, slice_index_or, slice_set};
 
 #[derive(Drop)]

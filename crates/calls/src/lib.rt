@@ -1,4 +1,6 @@
 // Theorems of calls in any order, at any scale of values `E`. Each function stands for one: its contract is the theorem.
+#![tactic(auto)]
+
 ghost use Rattle.calls.specs.Theorems.{OneAnswer, EmptyBegins, StaysWithin, ReportOfTables, PromisesStand, StepsCarry};
 ghost use Rattle.calls.specs.Promise.{PlainPromise, MeasuringPromise};
 

@@ -1,4 +1,6 @@
 // Examples of what the layers below the programs do.
+#![tactic(auto)]
+
 #[cfg(test)]
 mod tests {
     use file::FileFault;

@@ -1,4 +1,6 @@
 // What the calls on a problem do to its tables: adding, setting, weighing, scoring.
+#![tactic(auto)]
+
 mod adding;
 mod scoring;
 mod setting;

@@ -1,4 +1,6 @@
 // Figures of a report.
+#![tactic(auto)]
+
 mod ceilings;
 mod removed;
 mod roots;

@@ -1,4 +1,6 @@
 // Problem files: reading one into tables, and writing tables out as one.
+#![tactic(auto)]
+
 mod entries;
 mod fault;
 mod header;

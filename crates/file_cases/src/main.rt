@@ -1,5 +1,7 @@
 // Many problem files in one run. A line that begins with '#' names a case and is repeated; any other line is a file in hexadecimal, and is
 // answered as `inspect` answers it.
+#![tactic(auto)]
+
 use inspection::inspect;
 use std::alloc::{AllocError, Global};
 use std::io;

@@ -1,4 +1,6 @@
 // Links of a layout that form no cycle.
+#![tactic(auto)]
+
 mod cycles;
 mod keeping;
 mod links;

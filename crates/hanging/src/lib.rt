@@ -1,4 +1,6 @@
 // The forest of the kept links of a layout, hung from the lowest variable of each part.
+#![tactic(auto)]
+
 mod hung;
 mod node;
 

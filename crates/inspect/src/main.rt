@@ -1,4 +1,6 @@
 // Tests the problem file on standard input: says what it holds and whether it is the same when written back, or why it is declined.
+#![tactic(auto)]
+
 use inspection::{inspect, most_read};
 use std::io;
 use std::io::Read;

@@ -1,4 +1,6 @@
 // What a problem file holds, whichever of the four scales it is in.
+#![tactic(auto)]
+
 mod limit;
 mod looking;
 mod summary;

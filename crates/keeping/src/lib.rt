@@ -1,4 +1,6 @@
 // Links of a layout, kept by their weights.
+#![tactic(auto)]
+
 ghost use Rattle.theory.specs.Kept.{kept_at};
 ghost use Rattle.forest.specs.FactorGraph.{layout_graph};
 ghost use Rattle.keeping.specs.KeptByWeight.{KeptByWeight};

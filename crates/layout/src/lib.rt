@@ -1,4 +1,6 @@
 // The domains and scopes of a problem, within the sizes that a problem may have.
+#![tactic(auto)]
+
 mod fault;
 mod layout;
 mod scope;

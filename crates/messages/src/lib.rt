@@ -1,4 +1,6 @@
 // Messages up the hung forest of the kept links.
+#![tactic(auto)]
+
 mod cutting;
 mod functions;
 mod place;

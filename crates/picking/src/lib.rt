@@ -1,4 +1,6 @@
 // The plan that the messages lead to.
+#![tactic(auto)]
+
 ghost use Rattle.std.specs.Prelude.{◌≡◌, ℕ, ◌≤◌, length};
 ghost use Rattle.theory.specs.Forest.{WellHung};
 ghost use Rattle.theory.specs.Kept.{kept_at};

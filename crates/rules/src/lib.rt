@@ -1,4 +1,6 @@
 // Theorems of the report of a solve, at any scale of values `E`. Each function stands for one: its contract is the theorem.
+#![tactic(auto)]
+
 ghost use Rattle.rules.specs.Theorems.{OneReport, SomeReport, ReportGuarantees, ReportLightest, StraightHighest};
 
 // A problem has exactly one report by a rule, unless a straight solve meets a cycle, and the stores then hold one content.

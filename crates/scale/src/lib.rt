@@ -1,4 +1,6 @@
 // Scales: what the entries of tables and the scores of plans are counted in.
+#![tactic(auto)]
+
 ghost use Rattle.std.specs.Prelude.{◌≡◌, ℕ, ◌+◌, ◌≤◌, is_ok};
 ghost use Rattle.scale.specs.Laws.{Plain, EntryLaws, Gaps};
 ghost use Rattle.scale.specs.Rules.{Rules};

@@ -1,4 +1,6 @@
 // The tables of a problem: its domains and scopes, and beside them the words.
+#![tactic(auto)]
+
 mod comparing;
 mod scoring;
 mod tables;

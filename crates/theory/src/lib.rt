@@ -1,4 +1,6 @@
 // Theorems of max-sum over forests, and of the links that are kept, at any scale of values `E`. Each function stands for one: its contract is the theorem.
+#![tactic(auto)]
+
 ghost use Rattle.theory.specs.Theorems.{CutScoreBelow, EntryCovered, TreeValueBounds, TreeValueReached, SomePlanPicked, CeilingStands, UpperValueBounds, UpperValueCovered, MessagesUnique, StraightExact, PlaceByPlace, LinkByLink, AllProvided, PlansArePositions, GraphWhole, ForestHangs};
 ghost use Rattle.theory.specs.GraphTheorems.{Keeps_exists, Kept_clears, Kept_joins, Lightest, Keeps_unique, Parts_known, Left_out_count};
 

@@ -1,4 +1,6 @@
 // The weights of links.
+#![tactic(auto)]
+
 ghost use Rattle.std.specs.Prelude.{◌<◌};
 ghost use Rattle.theory.specs.Cut.{Weighs};
 ghost use Rattle.theory.specs.Problem.{functions, arity};

@@ -1,4 +1,6 @@
 // Examples worked through, proved from the definitions.
+#![tactic(auto)]
+
 ghost use Rattle.std.specs.Prelude.{◌≡◌};
 ghost use Rattle.worked.specs.Table.{CappedJoin, CappedGap, RankedOrder, RankedGap, PointsEntry, PointsNone, IndexOfTwo, PairWeights, PairKept, PairReport, TieReport, ChainStraight, ChainReport};
 
