@@ -62,7 +62,7 @@ def main(argv):
     changed = 0
     for path in files(root, (".antt", ".rt")):
         text = read(path)
-        new = NAME.sub(lambda m: m[0] if text[max(0, m.start() - 3) : m.start()].strip("( \n,") == "c." else turned.get(m[0], m[0]), text)
+        new = NAME.sub(lambda m: m[0] if re.search(r"(?<![\w'])c\.$", text[max(0, m.start() - 3) : m.start()]) else turned.get(m[0], m[0]), text)
         if new != text:
             changed += 1
             with open(path, "w", encoding="utf-8") as f:

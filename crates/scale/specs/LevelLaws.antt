@@ -34,7 +34,7 @@ capped_laws = record {
   trans = leq_trans;
   antisym = leq_antisym;
   comm = λ a b. same_level _ _ (omega arith);
-  assoc = λ a b c. same-level _ _ (omega arith);
+  assoc = λ a b c. same_level _ _ (omega arith);
   unit = λ a. same_level _ _ (omega (arith, at_most a));
   mono = λ a b c h. le-leb _ _ (omega (arith, leb-true b.size a.size h));
 }

@@ -1,6 +1,5 @@
 -- The pair worked through. Assumes nothing.
 use Rattle.std.proofs.Common.{◌≡◌, ℕ, ◌+◌, ◌*◌, ◌<◌, ◌≤◌, true, List, [], ◌∷◌, length, get_or, ℤ, pos, refl, arith}
-use lib.Signed.{le_z}
 use Rattle.scale.specs.Points.{points, points_reads}
 use Rattle.scale.specs.Whole.{whole_laws}
 use Rattle.theory.specs.Problem.{Plan, Valid, Sound, put, size, at, scope_of, entry, position}
@@ -45,9 +44,9 @@ module _ (f p u : ℕ) (T : ℕ → ℕ → ℤ) (along : (y : Plan) (x : ℕ) �
   abbrev swing : ℕ → ℤ
   swing c = points.gap (high points whole_laws pair f p u T along size-here c) (low points whole_laws pair f p u T along size-here c)
 
-  link_weighs : (w : ℤ) (c : ℕ) → c < 2 → swing c ≡ w → le_z (swing 0) w ≡ true → le_z (swing 1) w ≡ true → ((z : Plan) → Valid pair z → z u < 2) → Weighs points pair f p w
+  link_weighs : (w : ℤ) (c : ℕ) → c < 2 → swing c ≡ w → int_le (swing 0) w ≡ true → int_le (swing 1) w ≡ true → ((z : Plan) → Valid pair z → z u < 2) → Weighs points pair f p w
   link_weighs w c k is first second fits =
-      weighs_two points whole_laws pair f p u T along size-here w (λ _. c) (same_plan c k) is (λ z valid. two (λ x. le_z (swing x) w ≡ true) first second (z u) (fits z valid))
+      weighs_two points whole_laws pair f p u T along size-here w (λ _. c) (same_plan c k) is (λ z valid. two (λ x. int_le (swing x) w ≡ true) first second (z u) (fits z valid))
 
 pub pair_weights : PairWeights
 unfolding size at scope_of entry position

@@ -1,6 +1,5 @@
 -- The figures of the pair. Assumes nothing.
 use Rattle.std.proofs.Common.{◌≡◌, ℕ, zero, suc, ◌<◌, Bool, true, false, cond, eqb, List, [], ◌∷◌, get_or, replicate, ℤ, pos, ◌+ℤ◌, sym, refl, ap, ◌∙◌, subst, ap₂, arith}
-use lib.Signed.{le_z}
 use Rattle.std.proofs.lemmas.Bool.{false≢true}
 use Rattle.scale.specs.Points.{points}
 use Rattle.scale.specs.Whole.{whole_laws, whole_gaps}
@@ -37,9 +36,9 @@ lowest_0 : (y : Plan) → Valid pair y → Lowest points (λ z. Valid pair z × 
 unfolding size at scope_of
 lowest_0 y valid = go (y 1) refl (valid_one y valid).1
   where
-    bounds : (b : ℕ) → b < 2 → (z : Plan) → Valid pair z → z 1 ≡ b → le_z (low_0 b) (entry points pair 0 z) ≡ true
-    bounds b k z ok e = subst (λ (t : ℤ). le_z (low_0 b) t ≡ true) (sym (entry_0 z (z 0) b refl e))
-        (two (λ a. le_z (low_0 b) (told table_0 a b) ≡ true) (two (λ b. le_z (low_0 b) (told table_0 0 b) ≡ true) refl refl b k) (two (λ b. le_z (low_0 b) (told table_0 1 b) ≡ true) refl refl b k) (z 0) (valid_one z ok).0)
+    bounds : (b : ℕ) → b < 2 → (z : Plan) → Valid pair z → z 1 ≡ b → int_le (low_0 b) (entry points pair 0 z) ≡ true
+    bounds b k z ok e = subst (λ (t : ℤ). int_le (low_0 b) t ≡ true) (sym (entry_0 z (z 0) b refl e))
+        (two (λ a. int_le (low_0 b) (told table_0 a b) ≡ true) (two (λ b. int_le (low_0 b) (told table_0 0 b) ≡ true) refl refl b k) (two (λ b. int_le (low_0 b) (told table_0 1 b) ≡ true) refl refl b k) (z 0) (valid_one z ok).0)
 
     go : (b : ℕ) → y 1 ≡ b → b < 2 → Lowest points (λ z. Valid pair z × Agrees pair kept_of 0 y z) (entry points pair 0) (low_0 b)
     go zero e k = record {
@@ -65,10 +64,10 @@ cut_score cut is_cut y valid =
     ap₂ (λ (s t : ℤ). (pos 0 +ℤ s) +ℤ t) first second
 
 -- only the values 1 and 1 come to 7
-best : (a b : ℕ) → a < 2 → b < 2 → le_z (pos 7) (total a b) ≡ true → (a ≡ 1) × (b ≡ 1)
-best a b h k = two (λ a. le_z (pos 7) (total a b) ≡ true → (a ≡ 1) × (b ≡ 1))
-    (two (λ b. le_z (pos 7) (total 0 b) ≡ true → (◌≡◌ {A = ℕ} 0 1) × (b ≡ 1)) (λ e. absurd (false≢true e)) (λ e. absurd (false≢true e)) b k)
-    (two (λ b. le_z (pos 7) (total 1 b) ≡ true → (◌≡◌ {A = ℕ} 1 1) × (b ≡ 1)) (λ e. absurd (false≢true e)) (λ e. (refl, refl)) b k) a h
+best : (a b : ℕ) → a < 2 → b < 2 → int_le (pos 7) (total a b) ≡ true → (a ≡ 1) × (b ≡ 1)
+best a b h k = two (λ a. int_le (pos 7) (total a b) ≡ true → (a ≡ 1) × (b ≡ 1))
+    (two (λ b. int_le (pos 7) (total 0 b) ≡ true → (◌≡◌ {A = ℕ} 0 1) × (b ≡ 1)) (λ e. absurd (false≢true e)) (λ e. absurd (false≢true e)) b k)
+    (two (λ b. int_le (pos 7) (total 1 b) ≡ true → (◌≡◌ {A = ℕ} 1 1) × (b ≡ 1)) (λ e. absurd (false≢true e)) (λ e. (refl, refl)) b k) a h
 
 abbrev best_plan : List ℕ
 best_plan = 1 ∷ 1 ∷ replicate 62 0
@@ -99,8 +98,8 @@ pair_figures figures stores solved =
     let cut_of : IsCut points pair kept_of g.cut = subst (λ (k : ℕ → Bool). IsCut points pair k g.cut) (kept_by weight g.kept by_rule) g.is_cut in
     -- the tree value is our plan's cut score, and at least that of 1 and 1
     let tree : figures.tree ≡ total (y 0) (y 1) = sym g.reaches_tree ∙ cut_score g.cut cut_of y valid in
-    let least : le_z (pos 7) figures.tree ≡ true = subst (λ (t : ℤ). le_z t figures.tree ≡ true) (cut_score g.cut cut_of (λ _. 1) (same_plan 1 (omega arith))) (g.at_most_tree (λ _. 1) (same_plan 1 (omega arith))) in
-    let ones = best (y 0) (y 1) (valid_one y valid).0 (valid_one y valid).1 (subst (λ (t : ℤ). le_z (pos 7) t ≡ true) tree least) in
+    let least : int_le (pos 7) figures.tree ≡ true = subst (λ (t : ℤ). int_le t figures.tree ≡ true) (cut_score g.cut cut_of (λ _. 1) (same_plan 1 (omega arith))) (g.at_most_tree (λ _. 1) (same_plan 1 (omega arith))) in
+    let ones = best (y 0) (y 1) (valid_one y valid).0 (valid_one y valid).1 (subst (λ (t : ℤ). int_le (pos 7) t ≡ true) tree least) in
     let seven : figures.tree ≡ pos 7 = tree ∙ ap₂ total ones.0 ones.1 in
     let plan : figures.plan ≡ best_plan = plan_is figures.plan (1 ∷ 1 ∷ []) 62 r.plan_length (two (λ v. y v ≡ get_or (1 ∷ 1 ∷ []) v 0) ones.0 ones.1) r.plan_past in
     let kept : figures.kept ≡ fifty = packed_once kept_of figures.kept fifty (subst (λ (k : ℕ → Bool). Packed k figures.kept) by-kept r.kept_words) fifty_packed in

@@ -1,7 +1,6 @@
 -- Which links of the pair are kept. Assumes nothing.
 use Rattle.std.proofs.Common.{◌≡◌, ℕ, zero, suc, ◌^◌, ◌<◌, ◌≤◌, Bool, true, false, cond, not, ◌&&◌, ◌||◌, eqb, List, [], ◌∷◌, get_or, ℤ, pos, sym, refl, ap, ◌∙◌, subst, ⊎_elim, arith}
 use mathlib.Core.Path.{fun_ext}
-use lib.Signed.{le_z}
 use Rattle.std.proofs.lemmas.Bool.{cases_Bool, cases_eq, cases_lt, and_parts, and_from, false≢true, both_ways, ne_eqb}
 use Rattle.scale.specs.Points.{points}
 use Rattle.scale.specs.Whole.{whole_laws}
@@ -70,11 +69,11 @@ weights_are weight kept b = fun_ext (each (λ n. weight n ≡ weight_of n)
 
 module _ (kept : ℕ → Bool) (b : Bounded points pair weight_of kept) where
   abbrev earlier : ℕ → ℕ → Bool
-  earlier n m = kept m && before le_z weight_of m n
+  earlier n m = kept m && before int_le weight_of m n
 
   -- nothing is considered before link 4
-  none : (X : ℕ → Bool) (m : ℕ) → before le_z weight_of m 4 ≡ false → Uses (graph pair) (earlier 4) m → X ((graph pair).left m) ≡ X ((graph pair).right m)
-  none X m out u = absurd (both_ways (before le_z weight_of m 4) out (and_parts (kept m) (before le_z weight_of m 4) u.chosen).1)
+  none : (X : ℕ → Bool) (m : ℕ) → before int_le weight_of m 4 ≡ false → Uses (graph pair) (earlier 4) m → X ((graph pair).left m) ≡ X ((graph pair).right m)
+  none X m out u = absurd (both_ways (before int_le weight_of m 4) out (and_parts (kept m) (before int_le weight_of m 4) u.chosen).1)
 
   kept_4 : kept 4 ≡ true
   unfolding at scope_of
@@ -85,8 +84,8 @@ module _ (kept : ℕ → Bool) (b : Bounded points pair weight_of kept) where
       X a = eqb a 0
 
   -- a link that is not considered before n
-  later : (n : ℕ) (X : ℕ → Bool) (m : ℕ) → before le_z weight_of m n ≡ false → Uses (graph pair) (earlier n) m → X ((graph pair).left m) ≡ X ((graph pair).right m)
-  later n X m out u = absurd (both_ways (before le_z weight_of m n) out (and_parts (kept m) (before le_z weight_of m n) u.chosen).1)
+  later : (n : ℕ) (X : ℕ → Bool) (m : ℕ) → before int_le weight_of m n ≡ false → Uses (graph pair) (earlier n) m → X ((graph pair).left m) ≡ X ((graph pair).right m)
+  later n X m out u = absurd (both_ways (before int_le weight_of m n) out (and_parts (kept m) (before int_le weight_of m n) u.chosen).1)
 
   kept_5 : kept 5 ≡ true
   unfolding at scope_of

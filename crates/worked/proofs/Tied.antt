@@ -1,6 +1,5 @@
 -- The tie worked through. Assumes nothing.
 use Rattle.std.proofs.Common.{◌≡◌, ℕ, zero, suc, ◌<◌, ◌≤◌, Bool, true, cond, ◌&&◌, eqb, List, [], ◌∷◌, length, get_or, replicate, ℤ, pos, ◌+ℤ◌, Some, None, Option, sym, refl, ap, ◌∙◌, subst, ap₂, arith}
-use lib.Signed.{le_z}
 use Rattle.std.proofs.lemmas.Bool.{false≢true, and_parts}
 use Rattle.scale.specs.Points.{points}
 use Rattle.scale.specs.Whole.{whole_laws}
@@ -64,10 +63,10 @@ both_kept bounded w k b = (
 )
   where
     earlier : ℕ → ℕ → Bool
-    earlier n m = k m && before le_z w m n
+    earlier n m = k m && before int_le w m n
 
     itself : {A : Type 0} (n : ℕ) → Uses (graph tie) (earlier n) n → A
-    itself n u = absurd ((before_order whole_laws w).apart n n (and_parts (k n) (before le_z w n n) u.chosen).1 refl)
+    itself n u = absurd ((before_order whole_laws w).apart n n (and_parts (k n) (before int_le w n n) u.chosen).1 refl)
 
 module _ (rule : Rule) (w : Working points tie rule) where
   abbrev H : Hanging
@@ -125,9 +124,9 @@ module _ (rule : Rule) (w : Working points tie rule) where
   partner : ℕ → Plan
   partner x v = cond (eqb v 0) x (cond (eqb x 0) 1 0)
 
-  most : (y : Plan) → Valid tie y → le_z (entry points tie 0 y) (pos 5) ≡ true
-  most y valid = subst (λ (t : ℤ). le_z t (pos 5) ≡ true) (sym (tie_entry y (y 0) (y 1) refl refl))
-      (two (λ a. le_z (told table a (y 1)) (pos 5) ≡ true) (two (λ b. le_z (told table 0 b) (pos 5) ≡ true) refl refl (y 1) (values y valid).1) (two (λ b. le_z (told table 1 b) (pos 5) ≡ true) refl refl (y 1) (values y valid).1) (y 0) (values y valid).0)
+  most : (y : Plan) → Valid tie y → int_le (entry points tie 0 y) (pos 5) ≡ true
+  most y valid = subst (λ (t : ℤ). int_le t (pos 5) ≡ true) (sym (tie_entry y (y 0) (y 1) refl refl))
+      (two (λ a. int_le (told table a (y 1)) (pos 5) ≡ true) (two (λ b. int_le (told table 0 b) (pos 5) ≡ true) refl refl (y 1) (values y valid).1) (two (λ b. int_le (told table 1 b) (pos 5) ≡ true) refl refl (y 1) (values y valid).1) (y 0) (values y valid).0)
 
   partner_valid : (x : ℕ) → x < 2 → Valid tie (partner x)
   unfolding partner size
@@ -143,8 +142,8 @@ module _ (rule : Rule) (w : Working points tie rule) where
       let top = m.function 0 x (omega arith) (subst (λ (v : ℕ). x < size tie v) (sym above_0) h) in
       let (z, ok, is) = top.attained in
       whole_laws.antisym (m.r 0 x) (pos 5)
-      (subst (λ (t : ℤ). le_z t (pos 5) ≡ true) (sym (value z ok.0) ∙ is) (most z ok.0))
-      (subst (λ (t : ℤ). le_z t (m.r 0 x) ≡ true) (value (partner x) (partner_valid x h) ∙ partner_five x h) (top.bound (partner x) (partner_valid x h, ap (partner x) above_0)))
+      (subst (λ (t : ℤ). int_le t (pos 5) ≡ true) (sym (value z ok.0) ∙ is) (most z ok.0))
+      (subst (λ (t : ℤ). int_le t (m.r 0 x) ≡ true) (value (partner x) (partner_valid x h) ∙ partner_five x h) (top.bound (partner x) (partner_valid x h, ap (partner x) above_0)))
 
   q_0 : (x : ℕ) → x < 2 → m.q 0 x ≡ pos 5
   unfolding joins size
@@ -156,7 +155,7 @@ module _ (rule : Rule) (w : Working points tie rule) where
 
 -- with 0 for variable 0, only 1 gives 5
 partner_of_0 : (b : ℕ) → b < 2 → told table 0 b ≡ pos 5 → b ≡ 1
-partner_of_0 b h = two (λ b. told table 0 b ≡ pos 5 → b ≡ 1) (λ e. absurd (false≢true (sym (ap (λ t. le_z t (pos 0)) e)))) (λ e. refl) b h
+partner_of_0 b h = two (λ b. told table 0 b ≡ pos 5 → b ≡ 1) (λ e. absurd (false≢true (sym (ap (λ t. int_le t (pos 0)) e)))) (λ e. refl) b h
 
 score_five : score points tie (planned (0 ∷ 1 ∷ replicate 62 0)) ≡ pos 5
 unfolding joins size scope_of position entry

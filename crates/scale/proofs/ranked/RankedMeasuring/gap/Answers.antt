@@ -3,13 +3,13 @@ use Rattle.scale.specs.LexLaws.{pair_same}
 use Rattle.scale.specs.Sums.{gap_is, gap_spans, wider}
 use Rattle.scale.proofs.ranked.RankedMeasuring.gap.Goals as goal
 
-pub returns-then-at-least : goal.returns-then-at-least
-returns-then-at-least c = λ m n p q h.
+pub returns-then-at_least : goal.returns-then-at_least
+returns-then-at_least c = λ m n p q h.
     let e = c.minus.ensures.first in
     let d = c.minus.ensures.second in
-    (rw (sym c.if-at-least.ensures) (pair_same _ _ (gap_is _ _ _ _ _ p.0 q.0 (omega arith) e) (gap_is _ _ _ _ _ p.1 q.1 (omega arith) d)), (wider _ _ _ (omega arith) (gap_spans _ _ _ _ _ p.0 q.0 (omega arith) e), wider _ _ _ (omega arith) (gap_spans _ _ _ _ _ p.1 q.1 (omega arith) d)))
+    (rw (sym c.if-at_least.ensures) (pair_same _ _ (gap_is _ _ _ _ _ p.0 q.0 (omega arith) e) (gap_is _ _ _ _ _ p.1 q.1 (omega arith) d)), (wider _ _ _ (omega arith) (gap_spans _ _ _ _ _ p.0 q.0 (omega arith) e), wider _ _ _ (omega arith) (gap_spans _ _ _ _ _ p.1 q.1 (omega arith) d)))
 
-pub returns-else-at-least : goal.returns-else-at-least
-returns-else-at-least c = λ m n p q h.
+pub returns-else-at_least : goal.returns-else-at_least
+returns-else-at_least c = λ m n p q h.
     let s = c.neutral.ensures.within in
-    (rw (sym c.if-at-least.ensures) c.neutral.ensures.means, (wider _ _ _ (omega arith) s.0, wider _ _ _ (omega arith) s.1))
+    (rw (sym c.if-at_least.ensures) c.neutral.ensures.means, (wider _ _ _ (omega arith) s.0, wider _ _ _ (omega arith) s.1))
