@@ -14,8 +14,8 @@ grown count size i few small = rw (add-one i) (rw (pow-succ' 16 i) (rw (mul_comm
 bounded : (n i : ℕ) → i ≤ 4 → n ≤ 16 ^ i → n ≤ 65536
 bounded n i four few = let all : 16 ^ i ≤ 16 ^ 4 = pow-le-pow_right (omega arith) four in omega arith
 
-pub overflow-mul-count : goal.overflow-mul-count
-overflow-mul-count c =
+pub overflow_mul-count : goal.overflow_mul-count
+overflow_mul-count c =
     let i = c.loop-variable.variable-index in
     let l = c.args.self.now in
     let next = variable_at l c.args.scope.now i c.requires.known c.loop-variable-test.true in

@@ -35,16 +35,16 @@ within : (domains plan scope : List ℕ) → InDomains domains scope plan → Wi
 within domains plan [] fits = tt
 within domains plan (v ∷ scope) fits = (fits 0 (omega arith), within domains plan scope (λ p h. fits (suc p) (omega arith)))
 
-pub overflow-mul-place : goal.overflow-mul-place
-overflow-mul-place c =
+pub overflow_mul-place : goal.overflow_mul-place
+overflow_mul-place c =
     let i = c.loop-variable.variable-index in
     let l = c.args.self.now in
     let next = variable_at l c.args.scope.now i c.requires.known c.loop-variable-test.true in
     let step = grown c.loop-variable.place (get_or l.domains (get_or c.args.scope.now i 0) 0) 0 i c.loop-variable.invariant.1 next.1 (omega arith) in
     record { fits = omega (arith, bounded _ (i + 1) (omega (arith, c.requires.few)) step) }
 
-pub overflow-add-place : goal.overflow-add-place
-overflow-add-place c =
+pub overflow_add-place : goal.overflow_add-place
+overflow_add-place c =
     let i = c.loop-variable.variable-index in
     let l = c.args.self.now in
     let v = get_or c.args.scope.now i 0 in
