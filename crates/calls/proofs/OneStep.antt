@@ -24,7 +24,7 @@ module _ {E : Type 0} (R : Rules E) (L : Plain R) where
   one_step s fits (Step.declined {call} {n} first) (Step.declined {n = m} first') = (ap Answer.refused (first_once (tests R s call) n m first first'), refl)
   one_step s fits (Step.declined {n = n} first) (Step.variable_added {size} ok) = absurd (first_none (tests R s (Call.add_variable size)) n first ok)
   one_step s fits (Step.declined {n = n} first) (Step.function_added {scope} ok) = absurd (first_none (tests R s (Call.add_function scope)) n first ok)
-  one_step s fits (Step.declined {n = n} first) (Step.entry_set_lem {f} {index} {word} ok) = absurd (first_none (tests R s (Call.set_entry f index word)) n first ok)
+  one_step s fits (Step.declined {n = n} first) (Step.entry_set {f} {index} {word} ok) = absurd (first_none (tests R s (Call.set_entry f index word)) n first ok)
   one_step s fits (Step.declined {n = n} first) (Step.solved {rule} {values} {choices} ok solved) = absurd (first_none (tests R s (Call.solve rule values choices)) n first ok)
   one_step s fits (Step.declined {n = n} first) (Step.told {standing = st} is) = absurd (told_first s st n is first)
   one_step s fits (Step.declined {n = n} first) (Step.scored {values} ok) = absurd (first_none (tests R s (Call.score values)) n first ok)
@@ -33,8 +33,8 @@ module _ {E : Type 0} (R : Rules E) (L : Plain R) where
   one_step s fits (Step.variable_added ok) (Step.variable_added ok') = (refl, refl)
   one_step s fits (Step.function_added {scope} ok) (Step.declined {n = n} first) = absurd (first_none (tests R s (Call.add_function scope)) n first ok)
   one_step s fits (Step.function_added ok) (Step.function_added ok') = (refl, refl)
-  one_step s fits (Step.entry_set_lem {f} {index} {word} ok) (Step.declined {n = n} first) = absurd (first_none (tests R s (Call.set_entry f index word)) n first ok)
-  one_step s fits (Step.entry_set_lem ok) (Step.entry_set_lem ok') = (refl, refl)
+  one_step s fits (Step.entry_set {f} {index} {word} ok) (Step.declined {n = n} first) = absurd (first_none (tests R s (Call.set_entry f index word)) n first ok)
+  one_step s fits (Step.entry_set ok) (Step.entry_set ok') = (refl, refl)
   one_step s fits (Step.solved {rule} {values} {choices} ok solved) (Step.declined {n = n} first) = absurd (first_none (tests R s (Call.solve rule values choices)) n first ok)
   one_step s fits (Step.solved {rule} {figures = figures} {stores = stores} ok solved) (Step.solved {figures = figures'} {stores = stores'} ok' solved') =
       let same = one_report_lem R L s.problem fits rule figures figures' stores stores' solved solved' in

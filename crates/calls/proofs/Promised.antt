@@ -43,7 +43,7 @@ module _ {E : Type 0} (R : Rules E) where
   held_more s (Step.declined first) held = held
   held_more s (Step.variable_added {size} ok) held = record { fits = variable_fits R s held.fits size ok; stands = withdrawn _ refl }
   held_more s (Step.function_added {scope} ok) held = record { fits = function_fits R s held.fits scope R.neutral_word ok; stands = withdrawn _ refl }
-  held_more s (Step.entry_set_lem {f} {index} {word} ok) held = record { fits = word_fits R s held.fits f index word ok; stands = withdrawn _ refl }
+  held_more s (Step.entry_set {f} {index} {word} ok) held = record { fits = word_fits R s held.fits f index word ok; stands = withdrawn _ refl }
   held_more s (Step.solved {rule} {figures = figures} {stores = stores} ok solved) held = record { fits = held.fits; stands = replaced s rule figures stores solved }
   held_more s (Step.told is) held = held
   held_more s (Step.scored ok) held = held
@@ -84,7 +84,7 @@ module _ {E : Type 0} (R : Rules E) where
   straightly_more s (Step.declined first) ok held = held
   straightly_more s (Step.variable_added on) ok held = unsaid _ refl
   straightly_more s (Step.function_added on) ok held = unsaid _ refl
-  straightly_more s (Step.entry_set_lem on) ok held = unsaid _ refl
+  straightly_more s (Step.entry_set on) ok held = unsaid _ refl
   straightly_more s (Step.solved {rule} {values} {choices} {figures} on solved) ok held = straight_solved s rule values choices figures ok
   straightly_more s (Step.told is) ok held = held
   straightly_more s (Step.scored on) ok held = held

@@ -131,7 +131,7 @@ module _ {E : Type 0} (R : Rules E) (L : Plain R) (s : State E) (fits : Fits s.p
   accepted : (call : Call) → NoneFits (tests R s call) → Answered call
   accepted (add_variable d) ok = (_, _, Step.variable_added ok)
   accepted (add_function scope) ok = (_, _, Step.function_added ok)
-  accepted (set_entry f index word) ok = (_, _, Step.entry_set_lem ok)
+  accepted (set_entry f index word) ok = (_, _, Step.entry_set ok)
   accepted (solve rule values choices) ok = let (figures, stores, solved) = solved_how rule values choices ok in (_, _, Step.solved ok solved)
   accepted Call.report ok = told_how s.report refl ok.0
   accepted (Call.score values) ok = (_, _, Step.scored ok)

@@ -1,5 +1,5 @@
 -- The pair worked through. Assumes nothing.
-use Rattle.std.proofs.Common.{◌≡◌, ℕ, ◌+◌, ◌*◌, ◌<◌, ◌≤◌, true, List, [], ◌∷◌, length, get_or, ℤ, pos, refl, arith}
+use Rattle.std.proofs.Common.{int_le, ◌≡◌, ℕ, ◌+◌, ◌*◌, ◌<◌, ◌≤◌, true, List, [], ◌∷◌, length, get_or, ℤ, pos, refl, arith}
 use Rattle.scale.specs.Points.{points, points_reads}
 use Rattle.scale.specs.Whole.{whole_laws}
 use Rattle.theory.specs.Problem.{Plan, Valid, Sound, put, size, at, scope_of, entry, position}

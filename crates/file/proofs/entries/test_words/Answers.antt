@@ -9,18 +9,18 @@ use Rattle.file.proofs.entries.test_words.Goals as goal
 pub loop-k-init : goal.loop-k-init
 loop-k-init g c = none_each (entry_tests g.V.Scale.rules c.args.place c.args.section.now)
 
-pub returns-in-err-test-word : goal.returns-in-err-test-word
-returns-in-err-test-word g c =
+pub returns-in_err-test_word : goal.returns-in_err-test_word
+returns-in_err-test_word g c =
     let R = g.V.Scale.rules in
     let k = c.loop-k.k in
-    let f = c.in-err-test-word.field-0.0 in
-    let e = err_from_is_err_and c.from-residual.result c.from-residual.ensures.1 in
-    let here = subst (λ (w : ℕ). First (at_place (c.args.place + 4 * k) (word_tests R w)) (refusal f)) c.word-at.ensures c.in-err-test-word.ensures in
+    let f = c.in_err-test_word.field-0.0 in
+    let e = err_from_is_err_and c.from_residual.result c.from_residual.ensures.1 in
+    let here = subst (λ (w : ℕ). First (at_place (c.args.place + 4 * k) (word_tests R w)) (refusal f)) c.word_at.ensures c.in_err-test_word.ensures in
     rw (e.1, e.2) (first_each (entry_tests R c.args.place c.args.section.now) c.args.count k (refusal f) c.loop-k-test.true c.loop-k.invariant here)
 
 pub loop-k-preserved : goal.loop-k-preserved
 loop-k-preserved g c =
     let R = g.V.Scale.rules in
     let k = c.loop-k.k in
-    let here = subst (λ (w : ℕ). NoneFits (at_place (c.args.place + 4 * k) (word_tests R w))) c.word-at.ensures c.in-ok-test-word.ensures.0 in
+    let here = subst (λ (w : ℕ). NoneFits (at_place (c.args.place + 4 * k) (word_tests R w))) c.word_at.ensures c.in_ok-test_word.ensures.0 in
     none_more (entry_tests R c.args.place c.args.section.now) k c.loop-k.invariant here

@@ -38,35 +38,35 @@ after_header : {E : Type 0} → Rules E → List ℕ → List ((ℕ × ℕ) × T
 after_header R bs =
     layout_tests (domains_part bs) (scopes_part bs) (half bs 4) (half bs 6) ++ each (half bs 6) (entry_tests R (entries_place (half bs 2) (half bs 4)) (entries_part bs))
 
-pub returns-in-err-layout : goal.returns-in-err-layout
+pub returns-in_err-layout : goal.returns-in_err-layout
 unfolding after_header
-returns-in-err-layout g c =
+returns-in_err-layout g c =
     let R = g.V.Scale.rules in
     let bs = c.args.bytes.now in
-    let h = c.in-ok-header.header in
-    let head = c.in-ok-header.ensures in
+    let h = c.in_ok-header.header in
+    let head = c.in_ok-header.ensures in
     let parts = c.cut-sections.ensures in
-    let f = c.in-err-layout.field-0.0 in
-    let e = err_from_is_err_and c.from-residual-in-err-layout.result c.from-residual-in-err-layout.ensures.1 in
+    let f = c.in_err-layout.field-0.0 in
+    let e = err_from_is_err_and c.from_residual-in_err-layout.result c.from_residual-in_err-layout.ensures.1 in
     let none = subst (λ (n : ℕ). NoneFits (header_tests n bs)) c.code.ensures head.0 in
-    let here = subst (λ (ts : List ((ℕ × ℕ) × Type 0)). First ts (refusal f)) (layout_same R bs _ _ _ h head.1.counted parts.domains parts.scopes parts.entries) c.in-err-layout.ensures in
+    let here = subst (λ (ts : List ((ℕ × ℕ) × Type 0)). First ts (refusal f)) (layout_same R bs _ _ _ h head.1.counted parts.domains parts.scopes parts.entries) c.in_err-layout.ensures in
     rw (e.1, e.2)
     (first_after (header_tests R.code bs) (after_header R bs) (refusal f) none
     (first_before (layout_tests (domains_part bs) (scopes_part bs) (half bs 4) (half bs 6)) (each (half bs 6) (entry_tests R (entries_place (half bs 2) (half bs 4)) (entries_part bs))) (refusal f) here))
 
-pub returns-in-err-test-words : goal.returns-in-err-test-words
+pub returns-in_err-test_words : goal.returns-in_err-test_words
 unfolding after_header place
-returns-in-err-test-words g c =
+returns-in_err-test_words g c =
     let R = g.V.Scale.rules in
     let bs = c.args.bytes.now in
-    let h = c.in-ok-header.header in
-    let head = c.in-ok-header.ensures in
+    let h = c.in_ok-header.header in
+    let head = c.in_ok-header.ensures in
     let parts = c.cut-sections.ensures in
-    let f = c.in-err-test-words.field-0.0 in
-    let e = err_from_is_err_and c.from-residual-in-err-test-words.result c.from-residual-in-err-test-words.ensures.1 in
+    let f = c.in_err-test_words.field-0.0 in
+    let e = err_from_is_err_and c.from_residual-in_err-test_words.result c.from_residual-in_err-test_words.ensures.1 in
     let none = subst (λ (n : ℕ). NoneFits (header_tests n bs)) c.code.ensures head.0 in
-    let layout_none = subst (λ (ts : List ((ℕ × ℕ) × Type 0)). NoneFits ts) (layout_same R bs _ _ _ h head.1.counted parts.domains parts.scopes parts.entries) c.in-ok-layout.ensures.0 in
-    let here = subst (λ (ts : List ((ℕ × ℕ) × Type 0)). First ts (refusal f)) (entries_same R bs _ _ _ h head.1.counted parts.domains parts.scopes parts.entries) c.in-err-test-words.ensures in
+    let layout_none = subst (λ (ts : List ((ℕ × ℕ) × Type 0)). NoneFits ts) (layout_same R bs _ _ _ h head.1.counted parts.domains parts.scopes parts.entries) c.in_ok-layout.ensures.0 in
+    let here = subst (λ (ts : List ((ℕ × ℕ) × Type 0)). First ts (refusal f)) (entries_same R bs _ _ _ h head.1.counted parts.domains parts.scopes parts.entries) c.in_err-test_words.ensures in
     rw (e.1, e.2)
     (first_after (header_tests R.code bs) (after_header R bs) (refusal f) none
     (first_after (layout_tests (domains_part bs) (scopes_part bs) (half bs 4) (half bs 6)) (each (half bs 6) (entry_tests R (entries_place (half bs 2) (half bs 4)) (entries_part bs))) (refusal f) layout_none here))
@@ -76,17 +76,17 @@ unfolding after_header place
 returns g c =
     let R = g.V.Scale.rules in
     let bs = c.args.bytes.now in
-    let h = c.in-ok-header.header in
-    let head = c.in-ok-header.ensures in
+    let h = c.in_ok-header.header in
+    let head = c.in_ok-header.ensures in
     let parts = c.cut-sections.ensures in
     let told = head.1 in
     let counted = told.counted in
-    let after = c.in-ok-layout.ensures in
+    let after = c.in_ok-layout.ensures in
     let none = subst (λ (n : ℕ). NoneFits (header_tests n bs)) c.code.ensures head.0 in
     let layout_none = subst (λ (ts : List ((ℕ × ℕ) × Type 0)). NoneFits ts) (layout_same R bs _ _ _ h counted parts.domains parts.scopes parts.entries) after.0 in
-    let entries_none = subst (λ (ts : List ((ℕ × ℕ) × Type 0)). NoneFits ts) (entries_same R bs _ _ _ h counted parts.domains parts.scopes parts.entries) c.in-ok-test-words.ensures.0 in
+    let entries_none = subst (λ (ts : List ((ℕ × ℕ) × Type 0)). NoneFits ts) (entries_same R bs _ _ _ h counted parts.domains parts.scopes parts.entries) c.in_ok-test_words.ensures.0 in
     let placed : 16 + h.variables + 5 * h.functions ≡ entries_place (half bs 2) (half bs 4) = omega arith in
-    let Held = λ (t : Tables). Holds t bs (record { layout = c.in-ok-layout.layout; place = 16 + h.variables + 5 * h.functions; count = h.entries }) in
+    let Held = λ (t : Tables). Holds t bs (record { layout = c.in_ok-layout.layout; place = 16 + h.variables + 5 * h.functions; count = h.entries }) in
     let same-domains = λ (t : Tables) (held : Held t). ap domains_of held.layout ∙ after.1.0 ∙ parts.domains in
     let same-scopes = λ (t : Tables) (held : Held t). ap scopes_of held.layout ∙ after.1.1 ∙ ap₂ scopes_told parts.scopes counted.functions in
     let same-words = λ (t : Tables) (held : Held t) (k : ℕ) (lt : k < half bs 6). held.words k (omega (arith, counted.entries)) ∙ ap (λ (p : ℕ). word bs (p + 4 * k)) placed in (

@@ -9,25 +9,25 @@ use Rattle.file.specs.Numbers.{refusal}
 use Rattle.file.specs.Tests.{each, domain_tests, scope_tests_at, sum_tests, scopes_told, words_told}
 use Rattle.file.proofs.reading.read_layout.Goals as goal
 
-pub returns-in-err-domains : goal.returns-in-err-domains
-returns-in-err-domains c =
+pub returns-in_err-domains : goal.returns-in_err-domains
+returns-in_err-domains c =
     let ds = c.args.sections.domains.now in
     let ss = c.args.sections.scopes.now in
     let h = c.args.header in
-    let f = c.in-err-domains.field-0.0 in
-    let e = err_from_is_err_and c.from-residual.result c.from-residual.ensures.1 in
+    let f = c.in_err-domains.field-0.0 in
+    let e = err_from_is_err_and c.from_residual.result c.from_residual.ensures.1 in
     rw (e.1, e.2)
-    (first_before (each (length ds) (domain_tests ds)) (each h.functions (scope_tests_at ds ss) ++ sum_tests ds ss h.functions h.entries) (refusal f) c.in-err-domains.ensures)
+    (first_before (each (length ds) (domain_tests ds)) (each h.functions (scope_tests_at ds ss) ++ sum_tests ds ss h.functions h.entries) (refusal f) c.in_err-domains.ensures)
 
-pub returns-in-err-layout : goal.returns-in-err-layout
-returns-in-err-layout c =
+pub returns-in_err-layout : goal.returns-in_err-layout
+returns-in_err-layout c =
     let ds = c.args.sections.domains.now in
     let ss = c.args.sections.scopes.now in
     let h = c.args.header in
-    let before = c.in-ok-domains.ensures in
-    let f = c.in-err-layout.field-0.0 in
-    let e = err_from_is_err_and c.from-residual-in-err-layout.result c.from-residual-in-err-layout.ensures.1 in
-    let here = subst (λ (d : List ℕ). First (each h.functions (scope_tests_at d ss)) (refusal f)) before.1.0 c.in-err-layout.ensures in
+    let before = c.in_ok-domains.ensures in
+    let f = c.in_err-layout.field-0.0 in
+    let e = err_from_is_err_and c.from_residual-in_err-layout.result c.from_residual-in_err-layout.ensures.1 in
+    let here = subst (λ (d : List ℕ). First (each h.functions (scope_tests_at d ss)) (refusal f)) before.1.0 c.in_err-layout.ensures in
     rw (e.1, e.2)
     (first_after (each (length ds) (domain_tests ds)) (each h.functions (scope_tests_at ds ss) ++ sum_tests ds ss h.functions h.entries) (refusal f) before.0
     (first_before (each h.functions (scope_tests_at ds ss)) (sum_tests ds ss h.functions h.entries) (refusal f) here))
@@ -41,10 +41,10 @@ returns-then-header-words c =
     let ds = c.args.sections.domains.now in
     let ss = c.args.sections.scopes.now in
     let h = c.args.header in
-    let before = c.in-ok-domains.ensures in
-    let after = c.in-ok-layout.ensures in
+    let before = c.in_ok-domains.ensures in
+    let after = c.in_ok-layout.ensures in
     let none = subst (λ (d : List ℕ). NoneFits (each h.functions (scope_tests_at d ss))) before.1.0 after.0 in
-    let words = c.words.ensures ∙ used c.in-ok-layout.layout ds ss h.functions (after.1.0 ∙ before.1.0) after.1.1 in
+    let words = c.words.ensures ∙ used c.in_ok-layout.layout ds ss h.functions (after.1.0 ∙ before.1.0) after.1.1 in
     first_after (each (length ds) (domain_tests ds)) (each h.functions (scope_tests_at ds ss) ++ sum_tests ds ss h.functions h.entries) (23, 6) before.0
     (first_after (each h.functions (scope_tests_at ds ss)) (sum_tests ds ss h.functions h.entries) (23, 6) none (inl ((λ e. c.if-header-words.true (e ∙ sym words)), refl)))
 
@@ -53,10 +53,10 @@ returns c =
     let ds = c.args.sections.domains.now in
     let ss = c.args.sections.scopes.now in
     let h = c.args.header in
-    let before = c.in-ok-domains.ensures in
-    let after = c.in-ok-layout.ensures in
+    let before = c.in_ok-domains.ensures in
+    let after = c.in_ok-layout.ensures in
     let none = subst (λ (d : List ℕ). NoneFits (each h.functions (scope_tests_at d ss))) before.1.0 after.0 in
-    let words = c.words.ensures ∙ used c.in-ok-layout.layout ds ss h.functions (after.1.0 ∙ before.1.0) after.1.1 in (
+    let words = c.words.ensures ∙ used c.in_ok-layout.layout ds ss h.functions (after.1.0 ∙ before.1.0) after.1.1 in (
       none_both (each (length ds) (domain_tests ds)) (each h.functions (scope_tests_at ds ss) ++ sum_tests ds ss h.functions h.entries) before.0
           (none_both (each h.functions (scope_tests_at ds ss)) (sum_tests ds ss h.functions h.entries) none ((λ differs. differs (c.if-header-words.false ∙ words)), tt)),
       (after.1.0 ∙ before.1.0, after.1.1),

@@ -8,5 +8,5 @@ returns c =
     let place = c.args.found.place in
     record {
       layout = refl;
-      words = λ k h. c.load-words.ensures k h ∙ word_part bytes place (length bytes - place) (4 * k) (omega (arith, c.requires.long));
+      words = λ k h. c.load_words.ensures k h ∙ word_part bytes place (length bytes - place) (4 * k) (omega (arith, c.requires.long));
     }

@@ -44,14 +44,14 @@ module _ (layout next : Layout) (section bytes : List ℕ) (f place : ℕ)
 cut : (section : List ℕ) (f : ℕ) → take (5 * f + 5 - 5 * f) (drop (5 * f) section) ≡ record_at section f
 cut section f = let five : 5 * f + 5 - 5 * f ≡ 5 = omega arith in ap (λ (n : ℕ). take n (drop (5 * f) section)) five
 
-pub returns-in-err-next : goal.returns-in-err-next
-returns-in-err-next c =
+pub returns-in_err-next : goal.returns-in_err-next
+returns-in_err-next c =
     let section = c.args.section.now in
     let f = c.loop-f.f in
-    let a = c.in-err-next.field-0.0 in
-    let e = err_from_is_err_and c.from-residual.result c.from-residual.ensures.1 in
+    let a = c.in_err-next.field-0.0 in
+    let e = err_from_is_err_and c.from_residual.result c.from_residual.ensures.1 in
     let here = first_here c.args.layout c.loop-f.next section _ f _ c.loop-f.invariant.1 c.loop-f.invariant.2
-    (ap (λ (ds : List ℕ). 16 + length ds + 5 * f) c.domains.ensures) (cut section f) (refusal a) c.in-err-next.ensures in
+    (ap (λ (ds : List ℕ). 16 + length ds + 5 * f) c.domains.ensures) (cut section f) (refusal a) c.in_err-next.ensures in
     rw (e.1, e.2) (first_each (scope_tests_at (domains_of c.args.layout) section) c.args.functions f (refusal a) c.loop-f-test.true c.loop-f.invariant.0 here)
 
 pub loop-f-preserved : goal.loop-f-preserved
@@ -59,10 +59,10 @@ loop-f-preserved c =
     let layout = c.args.layout in
     let section = c.args.section.now in
     let f = c.loop-f.f in
-    let h = c.in-ok-next.ensures in
+    let h = c.in_ok-next.ensures in
     let placed = ap (λ (ds : List ℕ). 16 + length ds + 5 * f) c.domains.ensures in (
       none_more (scope_tests_at (domains_of layout) section) f c.loop-f.invariant.0
           (none_here layout c.loop-f.next section _ f _ c.loop-f.invariant.1 c.loop-f.invariant.2 placed (cut section f) h.0),
       h.1.0 ∙ c.loop-f.invariant.1,
-      scopes_more layout c.loop-f.next section _ f _ c.loop-f.invariant.1 c.loop-f.invariant.2 placed (cut section f) (scopes_of c.in-ok-next.next) h.1.1,
+      scopes_more layout c.loop-f.next section _ f _ c.loop-f.invariant.1 c.loop-f.invariant.2 placed (cut section f) (scopes_of c.in_ok-next.next) h.1.1,
     )

@@ -8,10 +8,10 @@ use Rattle.file.proofs.writing.header_of.Goals as goal
 pub returns : goal.returns
 returns c =
     let t = c.args.tables.now in
-    let fits = c.all-words.ensures.fits in
+    let fits = c.all_words.ensures.fits in
     let variables = ap length c.domains.ensures in
     let functions = c.functions.ensures ∙ sym (functions_length (domains_of t.layout) (scopes_of t.layout) t.words) in
-    let entries = ap length c.all-words.ensures.words in
+    let entries = ap length c.all_words.ensures.words in
     let words = words_length (problem_of t) in
     record {
       variable_count = variables;

@@ -14,7 +14,7 @@ loop-k-preserved c =
     let x = get_or c.args.bytes.now k 0 in
     let room : place + k < length out = omega (arith, c.requires) in
     let next : place + k + 1 ≡ place + (k + 1) = omega arith in (
-      subst (λ (n : ℕ). Written c.args.out.now (set out (place + k) x) place n) next (written_byte c.args.out.now out place (place + k) x (omega arith) room (c.type-inv.bytes k).fits c.loop-k.invariant.0),
+      subst (λ (n : ℕ). Written c.args.out.now (set out (place + k) x) place n) next (written_byte c.args.out.now out place (place + k) x (omega arith) room (c.type_inv.bytes k).fits c.loop-k.invariant.0),
       below_more _ _ (λ i h. let other : place + i ≢ place + k = omega arith in rw get_or-set_other (c.loop-k.invariant.1 i h)) (rw get_or-set_same),
     )
 

@@ -9,12 +9,12 @@ loop-j-preserved c =
     let j = c.loop-j.j in
     let before = c.args.out.now in
     let out = c.loop-j.out in
-    let after = c.put-bytes.new.out in
+    let after = c.put_bytes.new.out in
     let n = get_or c.args.numbers j 0 in
-    let two = ap length c.to-le-bytes.ensures in
-    let end : 2 * j + length c.to-le-bytes.result ≡ 2 * (j + 1) = omega arith in
-    let put = subst (λ (e : ℕ). Written out after (2 * j) e) end c.put-bytes.ensures.written in
-    let here = ap (λ (m : ℕ). part after (2 * j) m) (sym two) ∙ c.put-bytes.ensures.content ∙ c.to-le-bytes.ensures in (
+    let two = ap length c.to_le_bytes.ensures in
+    let end : 2 * j + length c.to_le_bytes.result ≡ 2 * (j + 1) = omega arith in
+    let put = subst (λ (e : ℕ). Written out after (2 * j) e) end c.put_bytes.ensures.written in
+    let here = ap (λ (m : ℕ). part after (2 * j) m) (sym two) ∙ c.put_bytes.ensures.content ∙ c.to_le_bytes.ensures in (
       written_more before out after 0 (2 * j) (2 * (j + 1)) (omega arith) (omega arith) c.loop-j.invariant.0 put,
       below_more _ _ (λ i h. half_kept out after (2 * j) (2 * (j + 1)) put (2 * i) (omega arith) ∙ c.loop-j.invariant.1 i h) (half_told after (2 * j) n (omega arith) here),
     )

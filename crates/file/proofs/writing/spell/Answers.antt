@@ -23,8 +23,8 @@ scope_same t f = sym (scope_from (domains_of t.layout) (scopes_of t.layout) t.wo
 between : (a b : List ℕ) (from to from' to' : ℕ) → from ≡ from' → to ≡ to' → Written a b from to → Written a b from' to'
 between a b from to from' to' p q w = subst (λ (n : ℕ). Written a b n to') p (subst (λ (n : ℕ). Written a b from n) q w)
 
-pub put-scopes-requires : goal.put-scopes-requires
-put-scopes-requires g c = let count = counted c.args.tables.now in record { low = omega arith; room = omega (arith, c.requires.room) }
+pub put_scopes-requires : goal.put_scopes-requires
+put_scopes-requires g c = let count = counted c.args.tables.now in record { low = omega arith; room = omega (arith, c.requires.room) }
 
 pub returns : goal.returns
 returns g c =
@@ -38,30 +38,30 @@ returns g c =
     let fs = counts.function_count in
     let es = counts.entry_count in
     let ds = ap length c.domains.ensures in
-    let ws = c.all-words.ensures.words in
+    let ws = c.all_words.ensures.words in
     let all = ap length ws in
-    let size = c.file-length.ensures in
-    let numbers : List ℕ = c.code.result ∷ h.variables ∷ h.functions ∷ h.entries ∷ 16 ∷ (16 + h.variables) ∷ (16 + h.variables + 5 * h.functions) ∷ c.file-length.result ∷ [] in
+    let size = c.file_length.ensures in
+    let numbers : List ℕ = c.code.result ∷ h.variables ∷ h.functions ∷ h.entries ∷ 16 ∷ (16 + h.variables) ∷ (16 + h.variables + 5 * h.functions) ∷ c.file_length.result ∷ [] in
     let code = c.code.ensures in
     let same : numbers ≡ numbers_of R.code P = cc in
-    let told = λ (j : ℕ) (low : j < 8). c.put-numbers.ensures.content j low ∙ ap (λ (ns : List ℕ). get_or ns j 0) same in
+    let told = λ (j : ℕ) (low : j < 8). c.put_numbers.ensures.content j low ∙ ap (λ (ns : List ℕ). get_or ns j 0) same in
     let a = c.args.out.now in
-    let b = c.put-numbers.new.out in
-    let d = c.put-bytes.new.out in
-    let e = c.put-scopes.new.out in
-    let f = c.put-words.new.out in
-    let second = between b d _ _ 16 (16 + variables P) refl (omega arith) c.put-bytes.ensures.written in
-    let third = between d e _ _ (16 + variables P) (16 + variables P + 5 * functions P) (omega arith) (omega arith) c.put-scopes.ensures.written in
-    let fourth = between e f _ _ (16 + variables P + 5 * functions P) (file_size P) (omega arith) (omega arith) c.put-words.ensures.written in
-    let domains = ap (λ (n : ℕ). part d 16 n) (sym ds) ∙ c.put-bytes.ensures.content ∙ c.domains.ensures in
+    let b = c.put_numbers.new.out in
+    let d = c.put_bytes.new.out in
+    let e = c.put_scopes.new.out in
+    let f = c.put_words.new.out in
+    let second = between b d _ _ 16 (16 + variables P) refl (omega arith) c.put_bytes.ensures.written in
+    let third = between d e _ _ (16 + variables P) (16 + variables P + 5 * functions P) (omega arith) (omega arith) c.put_scopes.ensures.written in
+    let fourth = between e f _ _ (16 + variables P + 5 * functions P) (file_size P) (omega arith) (omega arith) c.put_words.ensures.written in
+    let domains = ap (λ (n : ℕ). part d 16 n) (sym ds) ∙ c.put_bytes.ensures.content ∙ c.domains.ensures in
     let scopes = λ (g : ℕ) (lt : g < functions P).
-    ap (λ (n : ℕ). part e (16 + n + 5 * g) 5) (sym vs) ∙ c.put-scopes.ensures.content g (omega arith) ∙ ap scope_bytes (scope_same t g) in
+    ap (λ (n : ℕ). part e (16 + n + 5 * g) 5) (sym vs) ∙ c.put_scopes.ensures.content g (omega arith) ∙ ap scope_bytes (scope_same t g) in
     let words = λ (k : ℕ) (lt : k < length (words_in_order P)).
-    ap₂ (λ (n m : ℕ). word f (16 + n + 5 * m + 4 * k)) (sym vs) (sym fs) ∙ c.put-words.ensures.content k (omega arith) ∙ ap (λ (xs : List ℕ). get_or xs k 0) ws in
-    let spelled = assembled R.code P a b d e f c.requires.room (omega arith) (omega arith) (omega arith) (omega arith) c.put-numbers.ensures.written second third fourth told domains scopes words in
+    ap₂ (λ (n m : ℕ). word f (16 + n + 5 * m + 4 * k)) (sym vs) (sym fs) ∙ c.put_words.ensures.content k (omega arith) ∙ ap (λ (xs : List ℕ). get_or xs k 0) ws in
+    let spelled = assembled R.code P a b d e f c.requires.room (omega arith) (omega arith) (omega arith) (omega arith) c.put_numbers.ensures.written second third fourth told domains scopes words in
     record {
       spelled = spelled;
-      later = later_kept R.code P a b d e f c.requires.room (omega arith) (omega arith) (omega arith) (omega arith) c.put-numbers.ensures.written second third fourth told domains scopes words;
+      later = later_kept R.code P a b d e f c.requires.room (omega arith) (omega arith) (omega arith) (omega arith) c.put_numbers.ensures.written second third fourth told domains scopes words;
       accepted = λ entries. spelled_accepted R P _ (within_sizes t) entries spelled;
       back = λ Q other. one_problem R.code _ P Q spelled other;
     }

@@ -15,4 +15,4 @@ returns c =
     kept_by_order (layout_graph l) number_order order
     (λ n below there. let h : n < 256 = omega (arith, below, l.lengths.1, l.counts.1) in (n, omega arith, at n h))
     (λ i j lt h. lt-ltb (get_or order i 0) (get_or order j 0) (omega (arith, at i (omega arith), at j (omega arith))))
-    _ c.keep-in-order.ensures
+    _ c.keep_in_order.ensures

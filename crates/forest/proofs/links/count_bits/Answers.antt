@@ -8,8 +8,8 @@ use Rattle.forest.proofs.links.count_bits.Goals as goal
 pub loop-word-init : goal.loop-word-init
 loop-word-init c = (omega arith, sym (kept_none c.args.words.now))
 
-pub overflow-add-count : goal.overflow-add-count
-overflow-add-count c =
+pub overflow_add-count : goal.overflow_add-count
+overflow_add-count c =
     let w = get_or c.args.words.now c.loop-word.word-index 0 in
     let f : Fits w64 w = search rules in
     record { fits = omega (arith, f.fits, ones-le 64 w f.fits, c.loop-word.invariant.0, c.loop-word-test.true, c.requires) }

@@ -8,12 +8,12 @@ returns-then-ours-theirs g c =
     let f = g.V.Scale.rules.reads in
     (λ e. absurd (false≢true e), λ e. absurd (c.if-ours-theirs.true (sym (length-map c.args.ours.now f) ∙ ap length e ∙ length-map c.args.theirs.now f)))
 
-pub returns-then-not-same-entry : goal.returns-then-not-same-entry
-returns-then-not-same-entry g c =
+pub returns-then-not-same_entry : goal.returns-then-not-same_entry
+returns-then-not-same_entry g c =
     let f = g.V.Scale.rules.reads in
     let at = c.loop-at.at in (
       λ e. absurd (false≢true e),
-      λ e. c.if-not-same-entry.ensures.1
+      λ e. c.if-not-same_entry.ensures.1
           (sym (get_or-map f c.args.ours.now at 0 (f 0) c.loop-at-test.true) ∙ ap (λ (xs : List _). get_or xs at (f 0)) e ∙ get_or-map f c.args.theirs.now at 0 (f 0) (omega arith)),
     )
 

@@ -8,6 +8,6 @@ unfolding entry
 returns g c =
     let index = c.index-index.ensures.value ∙ position_is c.args.tables.now c.args.plan c.args.function in
     record {
-      exact = c.value-of.ensures.means ∙ ap g.V.Scale.rules.reads (c.word-at.ensures ∙ ap₂ (λ (words : List ℕ) (i : ℕ). get_or words i 0) c.table.ensures index);
-      within = c.value-of.ensures.within;
+      exact = c.value_of.ensures.means ∙ ap g.V.Scale.rules.reads (c.word_at.ensures ∙ ap₂ (λ (words : List ℕ) (i : ℕ). get_or words i 0) c.table.ensures index);
+      within = c.value_of.ensures.within;
     }

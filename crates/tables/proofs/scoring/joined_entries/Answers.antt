@@ -19,8 +19,8 @@ loop-function-preserved g c =
     let gives = λ (f : ℕ). entry v.rules (problem_of t) f (λ u. get_or c.args.plan u 0) in
     let few = t.layout.counts in
     let long = t.layout.lengths in
-    let more = c.join-joined.ensures n 1 c.loop-function.invariant.1 c.entry-at.ensures.within (omega arith) in
-    (more.0 ∙ ap₂ v.rules.join c.loop-function.invariant.0 c.entry-at.ensures.exact ∙ sym (joins_more v.rules n gives), more.1)
+    let more = c.join-joined.ensures n 1 c.loop-function.invariant.1 c.entry_at.ensures.within (omega arith) in
+    (more.0 ∙ ap₂ v.rules.join c.loop-function.invariant.0 c.entry_at.ensures.exact ∙ sym (joins_more v.rules n gives), more.1)
 
 pub returns : goal.returns
 returns g c =

@@ -10,7 +10,7 @@ loop-earlier-init c = ap length c.table-rest.ensures ∙ (within_sizes c.args.ta
 pub loop-earlier-preserved : goal.loop-earlier-preserved
 loop-earlier-preserved c =
     let t = c.args.tables.now in
-    ap₂ (λ (n m : ℕ). n / m) c.loop-earlier.invariant c.values-at-rest.ensures.value
+    ap₂ (λ (n m : ℕ). n / m) c.loop-earlier.invariant c.values_at-rest.ensures.value
     ∙ divided (problem_of t) (within_sizes t).sound c.args.function c.requires.function c.loop-earlier.earlier (omega (arith, c.requires.place))
 
 pub returns : goal.returns
@@ -18,5 +18,5 @@ returns c =
     let t = c.args.tables.now in
     let f = c.args.function in
     let end : c.loop-earlier.earlier ≡ c.args.place = omega arith in
-    ap₂ (λ (n m : ℕ). n / m) (c.loop-earlier.invariant ∙ ap (from_place (problem_of t) f) end) c.values-at.ensures.value
+    ap₂ (λ (n m : ℕ). n / m) (c.loop-earlier.invariant ∙ ap (from_place (problem_of t) f) end) c.values_at.ensures.value
     ∙ divided (problem_of t) (within_sizes t).sound f c.requires.function c.args.place c.requires.place

@@ -4,8 +4,8 @@ use Rattle.tables.specs.View.{problem_of}
 use Rattle.weights.proofs.Weighing.{before, whole, some_word, weighs}
 use Rattle.weights.proofs.swings.link_weight.Goals as goal
 
-pub widest-swing-requires : goal.widest-swing-requires
-widest-swing-requires g c =
+pub widest_swing-requires : goal.widest_swing-requires
+widest_swing-requires g c =
     let t = c.args.tables.now in
     let f = c.args.function in
     let p = c.args.place in
@@ -25,6 +25,6 @@ returns g c =
     let t = c.args.tables.now in
     record {
       value = weighs (problem_of t) (within_sizes t).sound c.args.function c.requires.function c.args.place c.requires.place v.rules
-          c.table.result.now c.args.values c.args.stride (v.means c.widest-swing.result) c.table.ensures c.requires.values c.requires.stride c.widest-swing.ensures.value;
-      within = c.widest-swing.ensures.within;
+          c.table.result.now c.args.values c.args.stride (v.means c.widest_swing.result) c.table.ensures c.requires.values c.requires.stride c.widest_swing.ensures.value;
+      within = c.widest_swing.ensures.within;
     }

@@ -4,10 +4,10 @@ use Rattle.theory.proofs.Topmost.{upward, downward}
 use Rattle.weights.specs.Swings.{along}
 use Rattle.weights.proofs.Running.{first, next, highest_of, lowest_of}
 use Rattle.weights.proofs.swings.swing.Goals as goal
-use Rattle.weights.proofs.swings.swing.Goals.{then-at-least, else-at-least, then-at-least-2, else-at-least-2}
+use Rattle.weights.proofs.swings.swing.Goals.{then-at_least, else-at_least, then-at_least-2, else-at_least-2}
 
-pub offset-bounds-table-from : goal.offset-bounds-table-from
-offset-bounds-table-from g c = record { fits = omega (arith, c.requires.inside 0 c.requires.some, c.requires.small) }
+pub offset_bounds-table-from : goal.offset_bounds-table-from
+offset_bounds-table-from g c = record { fits = omega (arith, c.requires.inside 0 c.requires.some, c.requires.small) }
 
 pub bounds-table-from : goal.bounds-table-from
 bounds-table-from g c = omega (arith, c.requires.inside 0 c.requires.some)
@@ -16,11 +16,11 @@ pub loop-x-init : goal.loop-x-init
 loop-x-init g c =
     let v = g.V.Scale in
     let laws = g.met.V.Scale.laws in
-    let high = c.value-of-high.result in
+    let high = c.value_of-high.result in
     let entry = along v.rules c.args.table.now c.args.stride c.args.from in
     let start : c.args.from + 0 * c.args.stride ≡ c.args.from = omega arith in
-    let is : entry 0 ≡ v.means high = ap (λ (i : ℕ). v.rules.reads (get_or c.args.table.now i 0)) start ∙ sym c.value-of-high.ensures.means in
-    let fine = c.value-of-high.ensures.within in (
+    let is : entry 0 ≡ v.means high = ap (λ (i : ℕ). v.rules.reads (get_or c.args.table.now i 0)) start ∙ sym c.value_of-high.ensures.means in
+    let fine = c.value_of-high.ensures.within in (
       first (upward v.rules laws) v.means (v.within 1) (λ x e. entry x ≡ e) (λ k a b d e. sym d ∙ e) high is fine,
       first (downward v.rules laws) v.means (v.within 1) (λ x e. entry x ≡ e) (λ k a b d e. sym d ∙ e) high is fine,
     )
@@ -29,14 +29,14 @@ pub loop-x-preserved : goal.loop-x-preserved
 loop-x-preserved g c =
     let v = g.V.Scale in
     let laws = g.met.V.Scale.laws in
-    let new = c.value-of-value.result in
+    let new = c.value_of-value.result in
     let entry = along v.rules c.args.table.now c.args.stride c.args.from in
-    let is = sym c.value-of-value.ensures.means in
-    let fine = c.value-of-value.ensures.within in (
-      next (upward v.rules laws) v.means (v.within 1) (λ x e. entry x ≡ e) (λ k a b d e. sym d ∙ e) c.loop-x.x c.loop-x.high new c.loop-x.invariant.0 is fine c.if-at-least.high
-          (elim c.if-at-least.branch [ then-at-least w ↦ inl (w.if-at-least.ensures, w.high-is) | else-at-least w ↦ inr (w.if-at-least.ensures, w.high-is) ]),
-      next (downward v.rules laws) v.means (v.within 1) (λ x e. entry x ≡ e) (λ k a b d e. sym d ∙ e) c.loop-x.x c.loop-x.low new c.loop-x.invariant.1 is fine c.if-at-least-2.low
-          (elim c.if-at-least-2.branch [ then-at-least-2 w ↦ inl (w.if-at-least-2.ensures, w.low-is) | else-at-least-2 w ↦ inr (w.if-at-least-2.ensures, w.low-is) ]),
+    let is = sym c.value_of-value.ensures.means in
+    let fine = c.value_of-value.ensures.within in (
+      next (upward v.rules laws) v.means (v.within 1) (λ x e. entry x ≡ e) (λ k a b d e. sym d ∙ e) c.loop-x.x c.loop-x.high new c.loop-x.invariant.0 is fine c.if-at_least.high
+          (elim c.if-at_least.branch [ then-at_least w ↦ inl (w.if-at_least.ensures, w.high-is) | else-at_least w ↦ inr (w.if-at_least.ensures, w.high-is) ]),
+      next (downward v.rules laws) v.means (v.within 1) (λ x e. entry x ≡ e) (λ k a b d e. sym d ∙ e) c.loop-x.x c.loop-x.low new c.loop-x.invariant.1 is fine c.if-at_least-2.low
+          (elim c.if-at_least-2.branch [ then-at_least-2 w ↦ inl (w.if-at_least-2.ensures, w.low-is) | else-at_least-2 w ↦ inr (w.if-at_least-2.ensures, w.low-is) ]),
     )
 
 pub returns : goal.returns

@@ -4,7 +4,7 @@ use Rattle.weights.specs.Swings.{SwingFrom, Widest, base}
 use Rattle.weights.proofs.Bases.{base_zero, some_value, some_count, inside, parts}
 use Rattle.weights.proofs.Running.{first, next, swing_one}
 use Rattle.weights.proofs.swings.widest_swing.Goals as goal
-use Rattle.weights.proofs.swings.widest_swing.Goals.{then-at-least, else-at-least}
+use Rattle.weights.proofs.swings.widest_swing.Goals.{then-at_least, else-at_least}
 
 pub swing-widest-requires : goal.swing-widest-requires
 swing-widest-requires g c =
@@ -29,20 +29,20 @@ loop-others-init g c =
     (subst (λ (from : ℕ). Swings from (w.means c.swing-widest.result)) (sym (base_zero c.args.values c.args.stride)) c.swing-widest.ensures.value)
     c.swing-widest.ensures.within
 
-pub overflow-mul-from : goal.overflow-mul-from
-overflow-mul-from g c =
+pub overflow_mul-from : goal.overflow_mul-from
+overflow_mul-from g c =
     let (earlier, whole) = c.requires.whole in
     let few = parts c.args.values c.args.stride earlier (length c.args.table.now) whole c.requires.some c.loop-others.others c.loop-others-test.true in
     record { fits = omega (arith, c.requires.small) }
 
-pub overflow-mul-from-in-loop-others : goal.overflow-mul-from-in-loop-others
-overflow-mul-from-in-loop-others g c =
+pub overflow_mul-from-in-loop-others : goal.overflow_mul-from-in-loop-others
+overflow_mul-from-in-loop-others g c =
     let (earlier, whole) = c.requires.whole in
     let few = parts c.args.values c.args.stride earlier (length c.args.table.now) whole c.requires.some c.loop-others.others c.loop-others-test.true in
     record { fits = omega (arith, c.requires.small) }
 
-pub overflow-add-from : goal.overflow-add-from
-overflow-add-from g c =
+pub overflow_add-from : goal.overflow_add-from
+overflow_add-from g c =
     let (earlier, whole) = c.requires.whole in
     let few = parts c.args.values c.args.stride earlier (length c.args.table.now) whole c.requires.some c.loop-others.others c.loop-others-test.true in
     record { fits = omega (arith, c.requires.small) }
@@ -64,8 +64,8 @@ loop-others-preserved g c =
     let Swings = SwingFrom w.rules c.args.table.now c.args.values c.args.stride in
     next (upward w.rules laws) w.means (w.within 2) (λ k e. Swings (base c.args.values c.args.stride k) e)
     (λ k. swing_one w.rules laws c.args.table.now c.args.values c.args.stride (base c.args.values c.args.stride k))
-    c.loop-others.others c.loop-others.widest c.swing-gap.result c.loop-others.invariant c.swing-gap.ensures.value c.swing-gap.ensures.within c.if-at-least.widest
-    (elim c.if-at-least.branch [ then-at-least t ↦ inl (t.if-at-least.ensures, t.widest-is) | else-at-least t ↦ inr (t.if-at-least.ensures, t.widest-is) ])
+    c.loop-others.others c.loop-others.widest c.swing-gap.result c.loop-others.invariant c.swing-gap.ensures.value c.swing-gap.ensures.within c.if-at_least.widest
+    (elim c.if-at_least.branch [ then-at_least t ↦ inl (t.if-at_least.ensures, t.widest-is) | else-at_least t ↦ inr (t.if-at_least.ensures, t.widest-is) ])
 
 pub returns : goal.returns
 returns g c =
