@@ -19,9 +19,9 @@ returns g c =
     let strict = before_order laws w in
     let G = layout_graph c.args.layout.now in
     let whole = layout_whole c.args.layout.now in
-    let K = kept_at c.keep-in-order.result.words in
-    let along = c.keep-in-order.ensures in
-    let order : ByWeight m.rules.leq w G c.list.result.now = rw c.list.ensures c.by-weight.ensures in
+    let K = kept_at c.keep_in_order.result.words in
+    let along = c.keep_in_order.ensures in
+    let order : ByWeight m.rules.leq w G c.list.result.now = rw c.list.ensures c.by_weight.ensures in
     let keeps = kept_by_order G strict _ order.complete order.ordered K along in
     record {
       only = λ n e. (along.only n e).0;

@@ -8,24 +8,24 @@ use Rattle.calls.proofs.Forms.{first_by_scopes, none_by_scopes}
 use Rattle.editing.proofs.Edited.{new_words, function_added}
 use Rattle.editing.proofs.adding.append.Goals as goal
 
-pub returns-in-err-layout : goal.returns-in-err-layout
-returns-in-err-layout c =
+pub returns-in_err-layout : goal.returns-in_err-layout
+returns-in_err-layout c =
     let t = c.args.tables.now in
     let l = t.layout in
-    let f = c.in-err-layout.field-0.0 in
-    let e = err_from_is_err_and c.from-residual.result c.from-residual.ensures.1 in
+    let f = c.in_err-layout.field-0.0 in
+    let e = err_from_is_err_and c.from_residual.result c.from_residual.ensures.1 in
     let told = scopes_from (domains_of l) (scopes_of l) t.words in
     rw (e.1, e.2) (record {
-      answer = first_by_scopes (problem_of t) (within_sizes t).sound (scopes_of l) told c.args.scope.now (problem_number f) c.in-err-layout.ensures;
+      answer = first_by_scopes (problem_of t) (within_sizes t).sound (scopes_of l) told c.args.scope.now (problem_number f) c.in_err-layout.ensures;
       declined = refl;
     })
 
 pub fill-requires : goal.fill-requires
 fill-requires c =
     let t = c.args.tables.now in
-    let accepted = c.in-ok-layout.ensures.1 in
-    let more = new_words t.layout c.in-ok-layout.layout c.args.scope.now accepted.0 accepted.1 in
-    let few = c.in-ok-layout.layout.few in
+    let accepted = c.in_ok-layout.ensures.1 in
+    let more = new_words t.layout c.in_ok-layout.layout c.args.scope.now accepted.0 accepted.1 in
+    let few = c.in_ok-layout.layout.few in
     let room = t.room in
     record { order = omega (arith, c.words-start.ensures, c.words.ensures); room = omega (arith, c.words.ensures) }
 
@@ -33,11 +33,11 @@ pub returns : goal.returns
 returns c =
     let t = c.args.tables.now in
     let l = t.layout in
-    let m = c.in-ok-layout.layout in
+    let m = c.in_ok-layout.layout in
     let scope = c.args.scope.now in
     let word = c.args.word in
     let told = scopes_from (domains_of l) (scopes_of l) t.words in
-    let accepted = c.in-ok-layout.ensures in
+    let accepted = c.in_ok-layout.ensures in
     let rest = drop (words_in m) t.words in
     let words = c.fill.ensures ∙ ap₂ (λ (from to : ℕ). take from t.words ++ (replicate (to - from) word ++ drop to t.words)) c.words-start.ensures c.words.ensures in
     record {

@@ -5,8 +5,8 @@ use Rattle.tables.proofs.Ordered.{within_sizes}
 use Rattle.tables.specs.View.{problem_of}
 use Rattle.editing.proofs.scoring.score_list.Goals as goal
 
-pub plan-of-requires : goal.plan-of-requires
-plan-of-requires g c =
+pub plan_of-requires : goal.plan_of-requires
+plan_of-requires g c =
     let fits = within_sizes c.args.tables.now in
     record {
       few = omega (arith, c.requires.long, fits.few_variables);
@@ -16,6 +16,6 @@ plan-of-requires g c =
 pub returns : goal.returns
 returns g c =
     record {
-      exact = c.score.ensures.exact ∙ ap (score g.V.Scale.rules (problem_of c.args.tables.now)) (fun_ext c.plan-of.ensures);
+      exact = c.score.ensures.exact ∙ ap (score g.V.Scale.rules (problem_of c.args.tables.now)) (fun_ext c.plan_of.ensures);
       within = c.score.ensures.within;
     }

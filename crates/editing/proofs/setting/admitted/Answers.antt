@@ -35,5 +35,5 @@ returns g c =
     let count = functions_length (domains_of t.layout) (scopes_of t.layout) t.words in
     let long = ap length c.table.ensures in
     answered_after problem_number ((9, functions (problem_of t) ≤ f) ∷ (10, length (table_of t f) ≤ i) ∷ []) (word_tests g.V.Scale.rules c.args.word)
-    (λ (w : ℕ). w ≡ c.args.word) (λ (w : ℕ). (w ≡ c.args.word) × (f < functions (problem_of t)) × (i < length (table_of t f))) c.check-word.result
-    (λ none. omega arith, (λ past. omega arith, tt)) (λ w same. (same, omega arith, omega arith)) c.check-word.ensures
+    (λ (w : ℕ). w ≡ c.args.word) (λ (w : ℕ). (w ≡ c.args.word) × (f < functions (problem_of t)) × (i < length (table_of t f))) c.check_word.result
+    (λ none. omega arith, (λ past. omega arith, tt)) (λ w same. (same, omega arith, omega arith)) c.check_word.ensures

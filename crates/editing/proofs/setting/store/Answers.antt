@@ -16,13 +16,13 @@ inside t f i h k =
     let few = table_within t f here in
     omega arith
 
-pub overflow-add-tables : goal.overflow-add-tables
-overflow-add-tables c =
+pub overflow_add-tables : goal.overflow_add-tables
+overflow_add-tables c =
     let low = inside c.args.tables.now c.args.function c.args.index c.requires.function c.requires.index in
     record { fits = omega (arith, c.start-start.ensures) }
 
-pub offset-bounds-tables-start : goal.offset-bounds-tables-start
-offset-bounds-tables-start c =
+pub offset_bounds-tables-start : goal.offset_bounds-tables-start
+offset_bounds-tables-start c =
     let low = inside c.args.tables.now c.args.function c.args.index c.requires.function c.requires.index in
     record { fits = omega (arith, c.start-start.ensures) }
 

@@ -8,19 +8,19 @@ use Rattle.file.specs.Spelling.{file_size}
 use Rattle.inspection.proofs.looking.look.Goals as goal
 use Rattle.std.proofs.lemmas.Bool.Decides.{Decides-eqb}
 
-pub returns-in-err-read : goal.returns-in-err-read
-returns-in-err-read g c =
-    let e = err_from_is_err_and c.from-residual.result c.from-residual.ensures.1 in
-    rw (e.1, e.2) c.in-err-read.ensures.answer
+pub returns-in_err-read : goal.returns-in_err-read
+returns-in_err-read g c =
+    let e = err_from_is_err_and c.from_residual.result c.from_residual.ensures.1 in
+    rw (e.1, e.2) c.in_err-read.ensures.answer
 
 pub returns : goal.returns
 returns g c =
     let t = c.read.new.tables in
-    let read = c.in-ok-read.ensures.answer in
-    let written = c.in-ok-written.ensures.answer in
+    let read = c.in_ok-read.ensures.answer in
+    let written = c.in_ok-written.ensures.answer in
     let l = t.layout in
     let copy = c.write.new.out in
-    let size : c.in-ok-written.written - 0 ≡ file_size (problem_of t) = omega (arith, written.1.0) in
+    let size : c.in_ok-written.written - 0 ≡ file_size (problem_of t) = omega (arith, written.1.0) in
     let back = ap (λ (n : ℕ). take n copy) size ∙ read.1.again _ written.1.1.spelled in (
       read.0,
       record {
@@ -29,7 +29,7 @@ returns g c =
         scale = c.code.ensures;
         variable_count = ap length c.domains.ensures;
         function_count = c.functions.ensures ∙ sym (functions_length (domains_of l) (scopes_of l) t.words);
-        entry_count = ap length c.all-words.ensures.words;
+        entry_count = ap length c.all_words.ensures.words;
         link_count = c.links.ensures ∙ ap (sum_by length) (sym (scopes_from (domains_of l) (scopes_of l) t.words));
         byte_count = written.1.0 ∙ sym read.1.spelled.long;
         same = (slice_eq-Decides Decides-eqb _ _ _ c.eq.ensures).1 back;

@@ -12,8 +12,8 @@ loop-v-init c =
     let K = kept_at c.args.kept.now.words in
     subst (λ s. PartsHung l K s 0) (sym c.none-hung.ensures) (parts_none l K)
 
-pub hang-variable-requires : goal.hang-variable-requires
-hang-variable-requires c =
+pub hang_variable-requires : goal.hang_variable-requires
+hang_variable-requires c =
     let l = c.args.layout.now in
     let K = kept_at c.args.kept.now.words in
     let small : c.loop-v.v < length (domains_of l) = omega (arith, c.loop-v-test.true, ap length c.domains-v-end.ensures) in
@@ -26,7 +26,7 @@ loop-v-preserved c =
     let v = c.loop-v.v in
     let small : v < length (domains_of l) = omega (arith, c.loop-v-test.true, ap length c.domains-v-end.ensures) in
     elim c.if-not-hung-v.branch [
-      | then-not-hung-v w ↦ subst (λ s. PartsHung l K s (v + 1)) (sym w.hung-is) (part_hung l K v c.loop-v.invariant small w.if-not-hung-v.true w.hang-variable.ensures)
+      | then-not-hung-v w ↦ subst (λ s. PartsHung l K s (v + 1)) (sym w.hung-is) (part_hung l K v c.loop-v.invariant small w.if-not-hung-v.true w.hang_variable.ensures)
       | else-not-hung-v w ↦ subst (λ s. PartsHung l K s (v + 1)) (sym w.hung-is) (part_same l K c.loop-v.invariant w.if-not-hung-v.false)
     ]
 
