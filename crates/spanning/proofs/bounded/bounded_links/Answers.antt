@@ -12,13 +12,13 @@ use Rattle.spanning.specs.WeightCells.{weight_cells}
 use Rattle.spanning.proofs.Removed.{no_cycle, each_kept, lightest_removed, bounded}
 use Rattle.spanning.proofs.bounded.bounded_links.Goals as goal
 
-pub hung-by-requires : goal.hung-by-requires
-hung-by-requires g c =
+pub hung_by-requires : goal.hung_by-requires
+hung_by-requires g c =
     let s = g.V.Scale in
     let t = c.args.tables.now in
     let w = weight_of s.rules s.means c.part.result.now in
-    let K = kept_at c.keep-by-weight.result.words in
-    record { each = each_kept s.rules t w K c.keep-by-weight.ensures; clear = no_cycle s.rules t w K c.keep-by-weight.ensures }
+    let K = kept_at c.keep_by_weight.result.words in
+    record { each = each_kept s.rules t w K c.keep_by_weight.ensures; clear = no_cycle s.rules t w K c.keep_by_weight.ensures }
 
 pub returns : goal.returns
 returns g c =
@@ -27,13 +27,13 @@ returns g c =
     let P = problem_of t in
     let cells = weight_cells c.args.values.now.cells.now in
     let w = weight_of s.rules s.means cells in
-    let K = kept_at c.keep-by-weight.result.words in
+    let K = kept_at c.keep_by_weight.result.words in
     let by_weight_lem : KeptByWeight s.rules (layout_graph t.layout) w K =
-    subst (λ (weights : List g.row.V.Denot). KeptByWeight s.rules (layout_graph t.layout) (weight_of s.rules s.means weights) K) c.part.ensures c.keep-by-weight.ensures in
-    let same = sym c.hung-by.ensures.kept in
+    subst (λ (weights : List g.row.V.Denot). KeptByWeight s.rules (layout_graph t.layout) (weight_of s.rules s.means weights) K) c.part.ensures c.keep_by_weight.ensures in
+    let same = sym c.hung_by.ensures.kept in
     record {
       rule = subst (λ (links : Links). Bounded s.rules P w (kept_at links.words)) same (bounded s.rules t w K by_weight_lem c.requires.weights c.requires.unweighed);
-      hung = subst (λ (links : Links). HungForest P (kept_at links.words) c.hung-by.result.hung) same c.hung-by.ensures.hung;
+      hung = subst (λ (links : Links). HungForest P (kept_at links.words) c.hung_by.result.hung) same c.hung_by.ensures.hung;
       lightest = subst (λ (links : Links). LightestRemoved s.rules P w (kept_at links.words)) same
           (lightest_removed s.rules t w K by_weight_lem c.requires.weights g.met.V.Measuring.gaps);
     }

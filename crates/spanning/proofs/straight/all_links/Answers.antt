@@ -6,7 +6,7 @@ use Rattle.forest.specs.FactorGraph.{layout_graph}
 use Rattle.forest.proofs.FactorGraphs.{present_below}
 use Rattle.spanning.proofs.AllLinks.{Upto, upto_none, upto_skip, upto_more}
 use Rattle.spanning.proofs.straight.all_links.Goals as goal
-use Rattle.spanning.proofs.straight.all_links.Goals.{then-is-link, else-is-link}
+use Rattle.spanning.proofs.straight.all_links.Goals.{then-is_link, else-is_link}
 
 pub loop-link-init : goal.loop-link-init
 loop-link-init c = upto_none (layout_graph c.args.layout.now).present _ c.none-links.ensures
@@ -16,10 +16,10 @@ loop-link-preserved c =
     let present = (layout_graph c.args.layout.now).present in
     let kept = kept_at c.loop-link.links.words in
     let n = c.loop-link.link in
-    elim c.if-is-link.branch [
-      | then-is-link w ↦ subst (λ (s : Links). Upto present (kept_at s.words) (n + 1)) (sym w.links-is)
+    elim c.if-is_link.branch [
+      | then-is_link w ↦ subst (λ (s : Links). Upto present (kept_at s.words) (n + 1)) (sym w.links-is)
           (upto_more present kept n c.loop-link.invariant _ (cc) (w.keep.ensures.within c.loop-link-test.true))
-      | else-is-link w ↦ subst (λ (s : Links). Upto present (kept_at s.words) (n + 1)) (sym w.links-is) (upto_skip present kept n c.loop-link.invariant (cc))
+      | else-is_link w ↦ subst (λ (s : Links). Upto present (kept_at s.words) (n + 1)) (sym w.links-is) (upto_skip present kept n c.loop-link.invariant (cc))
     ]
 
 pub returns : goal.returns

@@ -19,8 +19,8 @@ loop-link-preserved g c =
     let P = problem_of c.args.tables.now in
     let before = c.args.values.now.cells.now in
     let n = c.loop-link.link in
-    let v = c.weigh-link.result in
-    let weighs = c.weigh-link.ensures in
+    let v = c.weigh_link.result in
+    let weighs = c.weigh_link.ensures in
     let inv = c.loop-link.invariant in
     let room : 2304 ≤ length before = omega (arith, c.requires, c.args.values.now.whole) in
     let weight : LinkWeight s.rules s.means (s.within 2) P n v = record { weighs = weighs.weighs; unweighed = weighs.unweighed; fine = weighs.within } in (
