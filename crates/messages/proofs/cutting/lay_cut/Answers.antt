@@ -16,7 +16,7 @@ loop-at-preserved g c =
     let words = c.loop-at.words in
     let new = get_or c.args.table.now i 0 in
     let read = λ (j : ℕ). v.rules.reads (get_or c.args.table.now j 0) in
-    let key_is = c.cut-index-of-key.ensures.value in
+    let key_is = c.cut_index_of-key.ensures.value in
     let inside : i < product (sizes_in s) = omega (arith, c.requires.table, c.loop-at-test.true) in
     subst (λ (n : ℕ). Lows v.rules g.met.V.Scale.laws v.rules.reads (cut_index_lem s) read (i + 1) (set words n c.if-key-at.low)) (sym key_is)
     (lows_step v.rules g.met.V.Scale.laws v.rules.reads (cut_index_lem s) read i words new c.if-key-at.low
@@ -31,13 +31,13 @@ loop-at-preserved g c =
       | else-key-at w ↦ inr (
         λ e. w.if-key-at.false (key_is ∙ e),
         λ d.
-            let old = get_or_default words c.cut-index-of-key.result 0 d (omega (arith, c.requires.room, c.loop-at.auto.words, c.cut-index-of-key.ensures.low)) ∙ ap (λ (n : ℕ). get_or words n d) key_is in
+            let old = get_or_default words c.cut_index_of-key.result 0 d (omega (arith, c.requires.room, c.loop-at.auto.words, c.cut_index_of-key.ensures.low)) ∙ ap (λ (n : ℕ). get_or words n d) key_is in
             subst (λ (o : ℕ).
             ((true ≡ v.rules.leq (v.rules.reads new) (v.rules.reads o)) × (c.if-key-at.low ≡ new))
             ⊎ ((false ≡ v.rules.leq (v.rules.reads new) (v.rules.reads o)) × (c.if-key-at.low ≡ o))) old
             (subst (λ (r : ℕ).
-            ((true ≡ v.rules.leq (v.rules.reads new) (v.rules.reads (get_or words c.cut-index-of-key.result 0))) × (r ≡ new))
-            ⊎ ((false ≡ v.rules.leq (v.rules.reads new) (v.rules.reads (get_or words c.cut-index-of-key.result 0))) × (r ≡ get_or words c.cut-index-of-key.result 0))) (sym w.low-is) w.lower-low.ensures),
+            ((true ≡ v.rules.leq (v.rules.reads new) (v.rules.reads (get_or words c.cut_index_of-key.result 0))) × (r ≡ new))
+            ⊎ ((false ≡ v.rules.leq (v.rules.reads new) (v.rules.reads (get_or words c.cut_index_of-key.result 0))) × (r ≡ get_or words c.cut_index_of-key.result 0))) (sym w.low-is) w.lower-low.ensures),
       )
     ]))
 

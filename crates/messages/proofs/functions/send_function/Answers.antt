@@ -14,8 +14,8 @@ use Rattle.messages.proofs.FunctionSent.{function_sent}
 use Rattle.messages.proofs.OfPlaces.{sizes_are, parent_place, parent_size}
 use Rattle.messages.proofs.functions.send_function.Goals as goal
 
-pub lay-cut-requires : goal.lay-cut-requires
-lay-cut-requires g c =
+pub lay_cut-requires : goal.lay_cut-requires
+lay_cut-requires g c =
     let t = c.args.tables.now in
     let P = problem_of t in
     let f = c.args.function in
@@ -26,8 +26,8 @@ lay-cut-requires g c =
       room = omega (arith, long, fits.small_tables f c.requires.function);
     }
 
-pub best-entries-requires : goal.best-entries-requires
-best-entries-requires g c =
+pub best_entries-requires : goal.best_entries-requires
+best_entries-requires g c =
     let t = c.args.tables.now in
     let P = problem_of t in
     let kept = kept_at c.args.kept.now.words in
@@ -57,18 +57,18 @@ returns g c =
     let fits = within_sizes t in
     let s = c.of-places.result in
     let of = c.of-places.ensures in
-    let told = c.best-entries.ensures in
+    let told = c.best_entries.ensures in
     let long = ap length c.table-table.ensures in
     let wide = parent_size P kept H f s of c.requires.function c.requires.well in
-    let cuts = c.lay-cut.new.words in
-    let laid = subst (λ (table : List ℕ). CutWords v.rules s table cuts) c.table-table.ensures c.lay-cut.ensures in
+    let cuts = c.lay_cut.new.words in
+    let laid = subst (λ (table : List ℕ). CutWords v.rules s table cuts) c.table-table.ensures c.lay_cut.ensures in
     let (seen, bests) = told.best in
-    let after = c.best-entries.new.values in
+    let after = c.best_entries.new.values in
     record {
       sent = λ cut is_cut m n below.
           function_sent v.rules g.met.V.Scale.laws v.means v.within P fits kept H c.requires.well f c.requires.function s of cuts laid cut is_cut m n c.args.values.now.cells.now below
-          seen after.cells.now c.best-entries.new.choices.cells.now (let whole = after.whole in omega (arith, told.rows.0, c.requires.rows))
-          (subst (λ (words : ℕ). BestEntries v.rules v.means v.within s f words cuts c.args.values.now.cells.now words seen after.cells.now c.best-entries.new.choices.cells.now) long bests);
+          seen after.cells.now c.best_entries.new.choices.cells.now (let whole = after.whole in omega (arith, told.rows.0, c.requires.rows))
+          (subst (λ (words : ℕ). BestEntries v.rules v.means v.within s f words cuts c.args.values.now.cells.now words seen after.cells.now c.best_entries.new.choices.cells.now) long bests);
       values = λ k d apart. told.values k d (λ (x, low, e). apart (x, subst (λ (n : ℕ). x < n) wide low, e));
       choices = λ k d apart. told.choices k d (λ (x, low, e). apart (x, subst (λ (n : ℕ). x < n) wide low, e));
       rows = told.rows;

@@ -18,8 +18,8 @@ use Rattle.messages.specs.Upward.{OnlyAt}
 use Rattle.messages.proofs.Passing.{NodeSent, cells_apart, choices_apart, sent_on, sent_here}
 use Rattle.messages.proofs.sending.send_all.Goals as goal
 
-pub send-node-requires : goal.send-node-requires
-send-node-requires g c =
+pub send_node-requires : goal.send_node-requires
+send_node-requires g c =
     let v = g.V.Scale in
     let t = c.args.tables.now in
     let P = problem_of t in
@@ -56,16 +56,16 @@ loop-position-preserved g c =
     let fits = within_sizes t in
     let order = c.requires.order in
     let inv = c.loop-position.invariant in
-    let told = c.send-node.ensures in
+    let told = c.send_node.ensures in
     let q = c.loop-position.position - 1 in
     let b = node_at r q in
     let some : q + 1 ≡ c.loop-position.position = omega (arith, c.loop-position-test.true) in
     let below : q < r.count = omega (arith, c.loop-position.auto.position, c.count-position.ensures) in
     let is = c.node.ensures in
     let cells = c.loop-position.values.cells.now in
-    let cells' = c.send-node.new.values.cells.now in
+    let cells' = c.send_node.new.values.cells.now in
     let choices = c.loop-position.choices.cells.now in
-    let choices' = c.send-node.new.choices.cells.now in
+    let choices' = c.send_node.new.choices.cells.now in
     let up : (f : ℕ) → f < functions P → above P H f < variables P = λ f h. fits.sound.known f (H.fun_parent f) h (c.requires.well.fun_place f h) in
     let only = subst (λ (a : Node). OnlyAt (node_cells P H a) cells cells') is told.values in
     let only' = subst (λ (a : Node). OnlyAt (node_choices P H a) choices choices') is told.choices in

@@ -11,8 +11,8 @@ use Rattle.messages.specs.Sending.{SendsNode, node_cells, node_choices}
 use Rattle.messages.specs.Upward.{OnlyAt}
 use Rattle.messages.proofs.sending.send_node.Goals as goal
 
-pub send-variable-requires : goal.send-variable-requires
-send-variable-requires g c =
+pub send_variable-requires : goal.send_variable-requires
+send_variable-requires g c =
     let v = g.V.Scale in
     let t = c.args.tables.now in
     let P = problem_of t in
@@ -35,11 +35,11 @@ returns-in-Variable g c =
     let P = problem_of c.args.tables.now in
     let H = hanging_of c.args.hung.now in
     let kept = kept_at c.args.kept.now.words in
-    let told = c.send-variable.ensures in
+    let told = c.send_variable.ensures in
     let back = sym c.in-Variable.is in
     record {
-      sent = subst (λ (b : Node). SendsNode v.rules v.means v.within P kept H b c.args.values.now.cells.now c.send-variable.new.values.cells.now c.args.choices.now.cells.now) back (told.sent kept c.requires.well);
-      values = subst (λ (b : Node). OnlyAt (node_cells P H b) c.args.values.now.cells.now c.send-variable.new.values.cells.now) back told.values;
+      sent = subst (λ (b : Node). SendsNode v.rules v.means v.within P kept H b c.args.values.now.cells.now c.send_variable.new.values.cells.now c.args.choices.now.cells.now) back (told.sent kept c.requires.well);
+      values = subst (λ (b : Node). OnlyAt (node_cells P H b) c.args.values.now.cells.now c.send_variable.new.values.cells.now) back told.values;
       choices = λ k d apart. refl;
       rows = (told.rows, refl);
       long = (told.long, refl);

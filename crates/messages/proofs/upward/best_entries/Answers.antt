@@ -14,7 +14,7 @@ use Rattle.messages.specs.Upward.{gives, best_at, Best, Candidate, BelowHeld, Su
 use Rattle.messages.proofs.Joining.{join_stands}
 use Rattle.messages.proofs.Running.{upward_same, none_yet, passed, with_one}
 use Rattle.messages.proofs.upward.best_entries.Goals as goal
-use Rattle.messages.proofs.upward.best_entries.Goals.{then-cut-index-of-at, else-cut-index-of-at}
+use Rattle.messages.proofs.upward.best_entries.Goals.{then-cut_index_of-at, else-cut_index_of-at}
 
 -- best entries with the same parts
 same_best : {V : Type 0} {b b' : Bool} {a a' : V} {i i' : ℕ} → b ≡ b' → a ≡ a' → i ≡ i' → ◌≡◌ {A = Best V} (record { seen = b; value = a; index = i }) (record { seen = b'; value = a'; index = i' })
@@ -68,9 +68,9 @@ loop-at-preserved g c =
     let cuts = c.args.cuts.now in
     let before = c.args.values.now.cells.now in
     let inv = c.loop-at.invariant in
-    elim c.if-cut-index-of-at.branch [
-      | then-cut-index-of-at w ↦
-          let own : cut_index_lem s i ≡ i = sym c.cut-index-of.ensures.value ∙ w.if-cut-index-of-at.true in
+    elim c.if-cut_index_of-at.branch [
+      | then-cut_index_of-at w ↦
+          let own : cut_index_lem s i ≡ i = sym c.cut_index_of.ensures.value ∙ w.if-cut_index_of-at.true in
           let xs = w.combination-combination.result in
           let ys = combination (sizes_in s) i in
           let inside : i < product (sizes_in s) = omega (arith, c.requires.words, c.loop-at-test.true) in
@@ -93,8 +93,8 @@ loop-at-preserved g c =
           let counted = upward_same counts s n xs ys s.count same in
           let held : BelowHeld v.rules v.means v.within s cells q n = λ p x h on k d.
           subst (StandsFor v.means v.within (q (place_in s p).variable x) (n (place_in s p).variable x)) (sym (unmoved p x h (omega (arith, (s.small p h).2)) d)) (given.below p x h on k d) in
-          let below = w.from_below_lem.ensures q n held (omega arith) in
-          let entry : StandsFor v.means v.within (v.rules.reads (get_or cuts i 0)) 1 w.value-of.result = record { exact = w.value-of.ensures.means; few = w.value-of.ensures.within } in
+          let below = w.from_below.ensures q n held (omega arith) in
+          let entry : StandsFor v.means v.within (v.rules.reads (get_or cuts i 0)) 1 w.value_of.result = record { exact = w.value_of.ensures.means; few = w.value_of.ensures.within } in
           let joined = join_stands v.rules v.means v.within entry below (omega arith) w.join-value.ensures in
           record {
             exact = joined.exact ∙ ap (v.rules.join (v.rules.reads (get_or cuts i 0))) (upward_same v.rules s q xs ys s.count same);
@@ -104,8 +104,8 @@ loop-at-preserved g c =
           x₀ small w.join-value.result inv.0 (own, sym x₀-is) stands told.here told.values told.choices inv.1 in
           let Bests-now = BestEntries v.rules v.means v.within s f words cuts before (i + 1) in (
             ap length w.seen-is ∙ length-set c.loop-at.seen x₀ true ∙ inv.0,
-            subst (λ (b : List Bool). Bests-now b c.if-cut-index-of-at.values.cells.now c.if-cut-index-of-at.choices.cells.now) (sym w.seen-is)
-                (subst (λ b. Bests-now (set c.loop-at.seen x₀ true) b.cells.now c.if-cut-index-of-at.choices.cells.now) (sym w.values-is)
+            subst (λ (b : List Bool). Bests-now b c.if-cut_index_of-at.values.cells.now c.if-cut_index_of-at.choices.cells.now) (sym w.seen-is)
+                (subst (λ b. Bests-now (set c.loop-at.seen x₀ true) b.cells.now c.if-cut_index_of-at.choices.cells.now) (sym w.values-is)
                 (subst (λ b. Bests-now (set c.loop-at.seen x₀ true) values'.cells.now b.cells.now) (sym w.choices-is) bests)),
             subst (λ b. OnlyAt (λ k. (x : ℕ) × (x < (place_in s s.parent).size) × (k ≡ function_cell f x)) before b.cells.now) (sym w.values-is)
                 (only_row (function_cell f) (place_in s s.parent).size x₀ before cells values'.cells.now fits inv.2 told.values),
@@ -118,15 +118,15 @@ loop-at-preserved g c =
             ap (λ b. b.cells.ghost_name) w.values-is ∙ told.lent.0 ∙ inv.8,
             ap (λ b. b.cells.ghost_name) w.choices-is ∙ told.lent.1 ∙ inv.9,
           )
-      | else-cut-index-of-at w ↦
-          let other : cut_index_lem s i ≡ i → ⊥ = λ e. w.if-cut-index-of-at.false (c.cut-index-of.ensures.value ∙ e) in
+      | else-cut_index_of-at w ↦
+          let other : cut_index_lem s i ≡ i → ⊥ = λ e. w.if-cut_index_of-at.false (c.cut_index_of.ensures.value ∙ e) in
           let cells = c.loop-at.values.cells.now in
           let choices = c.loop-at.choices.cells.now in
           let bests = skipped v.rules laws v.means v.within wider s f words cuts before i c.loop-at.seen cells cells choices choices other inv.1 in
           let Bests-now = BestEntries v.rules v.means v.within s f words cuts before (i + 1) in (
             ap length w.seen-is ∙ inv.0,
-            subst (λ (b : List Bool). Bests-now b c.if-cut-index-of-at.values.cells.now c.if-cut-index-of-at.choices.cells.now) (sym w.seen-is)
-                (subst (λ b. Bests-now c.loop-at.seen b.cells.now c.if-cut-index-of-at.choices.cells.now) (sym w.values-is)
+            subst (λ (b : List Bool). Bests-now b c.if-cut_index_of-at.values.cells.now c.if-cut_index_of-at.choices.cells.now) (sym w.seen-is)
+                (subst (λ b. Bests-now c.loop-at.seen b.cells.now c.if-cut_index_of-at.choices.cells.now) (sym w.values-is)
                 (subst (λ b. Bests-now c.loop-at.seen cells b.cells.now) (sym w.choices-is) bests)),
             subst (λ b. OnlyAt (λ k. (x : ℕ) × (x < (place_in s s.parent).size) × (k ≡ function_cell f x)) before b.cells.now) (sym w.values-is) inv.2,
             subst (λ b. OnlyAt (λ k. (x : ℕ) × (x < (place_in s s.parent).size) × (k ≡ choice_cell f x)) c.args.choices.now.cells.now b.cells.now) (sym w.choices-is) inv.3,

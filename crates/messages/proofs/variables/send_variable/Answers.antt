@@ -18,7 +18,7 @@ use Rattle.messages.specs.Upward.{OnlyAt}
 use Rattle.messages.proofs.Counting.{joins_mono, q_few}
 use Rattle.messages.proofs.Joining.{started, stands_for, next_joined, next_passed, when_true, when_false}
 use Rattle.messages.proofs.variables.send_variable.Goals as goal
-use Rattle.messages.proofs.variables.send_variable.Goals.{then-hangs-under, else-hangs-under}
+use Rattle.messages.proofs.variables.send_variable.Goals.{then-hangs_under, else-hangs_under}
 
 pub loop-function-init : goal.loop-function-init
 loop-function-init g c =
@@ -35,15 +35,15 @@ loop-function-init g c =
       refl,
     )
 
-pub hangs-under-requires : goal.hangs-under-requires
-hangs-under-requires g c =
+pub hangs_under-requires : goal.hangs_under-requires
+hangs_under-requires g c =
     let t = c.args.tables.now in
     let known : c.loop-function.function < functions (problem_of t) = omega (arith, c.loop-function-test.true, c.functions-function-end.ensures, functions_length (domains_of t.layout) (scopes_of t.layout) t.words) in
     record { function = known; place = c.requires.places c.loop-function.function known }
 
-pub join-row-requires : goal.join-row-requires
+pub join_row-requires : goal.join_row-requires
 unfolding size
-join-row-requires g c =
+join_row-requires g c =
     let t = c.args.tables.now in
     let fits = within_sizes t in
     let known : c.loop-function.function < functions (problem_of t) = omega (arith, c.loop-function-test.true, c.functions-function-end.ensures, functions_length (domains_of t.layout) (scopes_of t.layout) t.words) in
@@ -69,11 +69,11 @@ loop-function-preserved g c =
     let cells = c.loop-function.values.cells.now in
     let known : i < functions P = omega (arith, c.loop-function-test.true, c.functions-function-end.ensures, functions_length (domains_of t.layout) (scopes_of t.layout) t.words) in
     let wide : get_or c.domains.result.now u 0 ≡ size P u = ap (λ (ds : List ℕ). get_or ds u 0) c.domains.ensures in
-    elim c.if-hangs-under.branch [
-      | then-hangs-under w ↦
-          let on : eqb (above P H i) u ≡ true = sym w.if-hangs-under.ensures in
-          let told = w.join-row.ensures in
-          let after = w.join-row.new.values in (
+    elim c.if-hangs_under.branch [
+      | then-hangs_under w ↦
+          let on : eqb (above P H i) u ≡ true = sym w.if-hangs_under.ensures in
+          let told = w.join_row.ensures in
+          let after = w.join_row.new.values in (
             λ kept well cut m n below x h d.
                 let e : ℕ → v.Exact = λ f. when v.rules (eqb (above P H f) u) (m.r f x) in
                 let k : ℕ → ℕ = λ f. when counts (eqb (above P H f) u) (n.r f x) in
@@ -93,8 +93,8 @@ loop-function-preserved g c =
             ap (λ b. length b.cells.now) w.values-is ∙ told.long ∙ inv.3,
             ap (λ b. b.cells.ghost_name) w.values-is ∙ told.lent ∙ inv.4,
           )
-      | else-hangs-under w ↦
-          let off : eqb (above P H i) u ≡ false = sym w.if-hangs-under.ensures in (
+      | else-hangs_under w ↦
+          let off : eqb (above P H i) u ≡ false = sym w.if-hangs_under.ensures in (
             λ kept well cut m n below x h d.
                 let e : ℕ → v.Exact = λ f. when v.rules (eqb (above P H f) u) (m.r f x) in
                 let k : ℕ → ℕ = λ f. when counts (eqb (above P H f) u) (n.r f x) in

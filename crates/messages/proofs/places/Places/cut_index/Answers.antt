@@ -6,15 +6,15 @@ use Rattle.messages.proofs.PlaceSizes.{shown_values, shown_step, shown_small, sh
 use Rattle.messages.proofs.places.Places.cut_index.Goals as goal
 use Rattle.messages.proofs.places.Places.cut_index.Goals.{then-place, else-place}
 
-pub overflow-mul-index : goal.overflow-mul-index
-overflow-mul-index c =
+pub overflow_mul-index : goal.overflow_mul-index
+overflow_mul-index c =
     let s = c.args.self.now in
     let p = c.loop-p.p in
     let step = ap (λ (n : ℕ). n * (place_in s p).size + cond (place_in s p).kept (get_or c.args.values p 0) 0) c.loop-p.invariant ∙ shown_step s c.args.values (omega arith) c.requires p c.loop-p-test.true in
     record { fits = omega (arith, shown_small s c.args.values (omega arith) c.requires (p + 1) (omega arith)) }
 
-pub overflow-add-index : goal.overflow-add-index
-overflow-add-index c =
+pub overflow_add-index : goal.overflow_add-index
+overflow_add-index c =
     let s = c.args.self.now in
     let p = c.loop-p.p in
     let step = ap (λ (n : ℕ). n * (place_in s p).size + cond (place_in s p).kept (get_or c.args.values p 0) 0) c.loop-p.invariant ∙ shown_step s c.args.values (omega arith) c.requires p c.loop-p-test.true in

@@ -13,22 +13,20 @@ place-requires c =
 pub function-requires : goal.function-requires
 function-requires c = omega (arith, c.requires, (within_sizes c.args.tables.now).few_functions)
 
-pub invariant-of-result : goal.invariant-of-result
-invariant-of-result c =
+pub invariant_of-result : goal.invariant_of-result
+invariant_of-result c =
     let t = c.args.tables.now in
     let f = c.args.function in
     let P = problem_of t in
     let fits = within_sizes t in
-    let long = ap length (c.scope-count.ensures.list ∙ sym (scope_is t f)) in (
-      (c.loop-p.invariant.0, c.scope-count.ensures.few),
-      (
-        λ p h.
-            let here : p < arity P f = omega arith in
-            let known = fits.sound.known f p c.requires here in
-            subst Small (sym (c.loop-p.invariant.1 p (omega arith))) (omega (arith, fits.few_variables), fits.sound.nonempty (at P f p) known, fits.small_domains (at P f p) known),
-        tt,
-      ),
-    )
+    let long = ap length (c.scope-count.ensures.list ∙ sym (scope_is t f)) in
+    record {
+      room = (c.loop-p.invariant.0, c.scope-count.ensures.few);
+      small = λ p h.
+          let here : p < arity P f = omega arith in
+          let known = fits.sound.known f p c.requires here in
+          subst Small (sym (c.loop-p.invariant.1 p (omega arith))) (omega (arith, fits.few_variables), fits.sound.nonempty (at P f p) known, fits.small_domains (at P f p) known);
+    }
 
 pub returns : goal.returns
 returns c =

@@ -14,16 +14,16 @@ bounds-domains-variable c =
     let same = scope_is c.args.tables.now c.args.function ∙ sym c.scope.ensures.list in
     omega (arith, c.scope.ensures.known c.args.place (subst (λ (s : List ℕ). c.args.place < length s) same c.requires.place), ap length c.domains.ensures)
 
-pub overflow-mul-function : goal.overflow-mul-function
-overflow-mul-function c = record { fits = omega (arith, c.requires.function, (within_sizes c.args.tables.now).few_functions) }
+pub overflow_mul-function : goal.overflow_mul-function
+overflow_mul-function c = record { fits = omega (arith, c.requires.function, (within_sizes c.args.tables.now).few_functions) }
 
-pub overflow-add-function : goal.overflow-add-function
-overflow-add-function c =
+pub overflow_add-function : goal.overflow_add-function
+overflow_add-function c =
     let fits = within_sizes c.args.tables.now in
     record { fits = omega (arith, c.requires.function, c.requires.place, fits.few_functions, fits.sound.four_places c.args.function c.requires.function) }
 
-pub hangs-from-requires : goal.hangs-from-requires
-hangs-from-requires c =
+pub hangs_from-requires : goal.hangs_from-requires
+hangs_from-requires c =
     let t = c.args.tables.now in
     let same = scope_is t c.args.function ∙ sym c.scope.ensures.list in
     let known = c.scope.ensures.known c.args.place (subst (λ (s : List ℕ). c.args.place < length s) same c.requires.place) in
@@ -41,4 +41,4 @@ returns c =
     let scope = c.scope.ensures.list ∙ sym (scope_is t c.args.function) in
     let here = ap (λ (s : List ℕ). get_or s c.args.place 0) scope in
     same_place here (ap₂ (λ (ds : List ℕ) (v : ℕ). get_or ds v 0) c.domains.ensures here) c.holds.ensures
-    (c.hangs-from.ensures ∙ ap (λ (v : ℕ). hangs ((hanging_of c.args.hung.now).var_parent v) c.args.function) here)
+    (c.hangs_from.ensures ∙ ap (λ (v : ℕ). hangs ((hanging_of c.args.hung.now).var_parent v) c.args.function) here)
