@@ -9,10 +9,10 @@ use Rattle.theory.specs.Sizes.{Fits}
 use Rattle.theory.specs.Forest.{Hanging, WellHung, is_root}
 use Rattle.theory.specs.Messages.{Messages}
 use Rattle.messages.specs.Counts.{counts, one_entry}
-use Rattle.messages.specs.Holding.{StandsFor}
+use Rattle.messages.specs.Holding.{StandsFor, JoinOf}
 use Rattle.messages.specs.Sent.{VariableSent}
 use Rattle.messages.proofs.Counting.{all_counted, joins_mono}
-use Rattle.messages.proofs.Joining.{Joined, started, stands_for, next_joined, next_passed, when_true, when_false}
+use Rattle.messages.proofs.Joining.{started, stands_for, next_joined, next_passed, when_true, when_false}
 use Rattle.figures.specs.TreeValue.{HighestCell, TreeValueOf}
 use Rattle.figures.proofs.Highest.{highest_stands}
 
@@ -36,7 +36,7 @@ module _ {V E : Type 0} (R : Rules E) (means : V → E) (within : ℕ → V → 
 
     -- v is a root
     pub root_joined : EntryLaws R within → Fits P → v < variables P → is_root H v ≡ true →
-        (best new : V) → HighestCell R means cells v (size P v) best → Joined R means within old best new → RootsBelow (v + 1) new
+        (best new : V) → HighestCell R means cells v (size P v) best → JoinOf R means within old best new → RootsBelow (v + 1) new
     root_joined ties fits known root best new highest joined = λ kept hung cut m n sent.
         let e : ℕ → E = λ u. when R (is_root H u) (m.best u) in
         let k : ℕ → ℕ = λ u. when counts (is_root H u) (n.best u) in

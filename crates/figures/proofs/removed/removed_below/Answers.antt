@@ -5,7 +5,7 @@ use Rattle.forest.specs.FactorGraph.{layout_graph}
 use Rattle.keeping.specs.Weights.{weight_of}
 use Rattle.figures.proofs.Removing.{JoinedBelow, joined_none, joined_more, joined_same, weight_is}
 use Rattle.figures.proofs.removed.removed_below.Goals as goal
-use Rattle.figures.proofs.removed.removed_below.Goals.{then-is-removed, else-is-removed}
+use Rattle.figures.proofs.removed.removed_below.Goals.{then-is_removed, else-is_removed}
 
 pub loop-link-init : goal.loop-link-init
 loop-link-init g c =
@@ -24,14 +24,14 @@ loop-link-preserved g c =
     let old = c.loop-link.joined in
     let low : n < 256 = omega (arith, l.lengths, l.counts, c.requires.links) in
     let After = JoinedBelow v.rules v.means v.within removed weights (n + 1) in
-    elim c.if-is-removed.branch [
-      | then-is-removed w ↦
+    elim c.if-is_removed.branch [
+      | then-is_removed w ↦
           let x = w.index-weights-link.result in
           let few = subst (v.within 2) (sym w.index-weights-link.is) (c.requires.few n x low) in
           let more = w.join-joined.ensures (2 * n) 2 c.loop-link.invariant.1 few (omega arith) in
-          subst After (sym w.joined-is) (joined_more v.rules v.means v.within removed weights met.laws met.ties n old c.loop-link.invariant x w.join-joined.result (omega (arith, c.requires.long)) w.index-weights-link.is (sym w.if-is-removed.ensures) more.0 more.1)
-      | else-is-removed w ↦
-          subst After (sym w.joined-is) (joined_same v.rules v.means v.within removed weights met.laws met.ties n old c.loop-link.invariant (sym w.if-is-removed.ensures))
+          subst After (sym w.joined-is) (joined_more v.rules v.means v.within removed weights met.laws met.ties n old c.loop-link.invariant x w.join-joined.result (omega (arith, c.requires.long)) w.index-weights-link.is (sym w.if-is_removed.ensures) more.0 more.1)
+      | else-is_removed w ↦
+          subst After (sym w.joined-is) (joined_same v.rules v.means v.within removed weights met.laws met.ties n old c.loop-link.invariant (sym w.if-is_removed.ensures))
     ]
 
 pub returns : goal.returns

@@ -2,7 +2,7 @@ use Rattle.std.proofs.Common.{◌≡◌, ℕ, ◌+◌, sym, ◌∙◌, subst, ar
 use Rattle.figures.specs.TreeValue.{HighestCell}
 use Rattle.figures.proofs.Highest.{first_cell, higher_cell, lower_cell}
 use Rattle.figures.proofs.roots.highest.Goals as goal
-use Rattle.figures.proofs.roots.highest.Goals.{then-at-least, else-at-least}
+use Rattle.figures.proofs.roots.highest.Goals.{then-at_least, else-at_least}
 
 pub loop-x-init : goal.loop-x-init
 loop-x-init g c = first_cell g.V.Scale.rules g.met.V.Scale.laws g.V.Scale.means c.args.values.now.cells.now c.args.row c.get-best.result c.get-best.ensures
@@ -17,9 +17,9 @@ loop-x-preserved g c =
     let best = c.loop-x.best in
     let new = c.get-value.result in
     let After = HighestCell v.rules v.means cells row (x + 1) in
-    elim c.if-at-least.branch [
-      | then-at-least w ↦ subst After (sym w.best_is) (higher_cell v.rules laws v.means cells row x best new c.loop-x.invariant c.get-value.ensures (sym c.at-least.ensures ∙ w.if-at-least.true))
-      | else-at-least w ↦ subst After (sym w.best_is) (lower_cell v.rules laws v.means cells row x best new c.loop-x.invariant c.get-value.ensures (sym c.at-least.ensures ∙ w.if-at-least.false))
+    elim c.if-at_least.branch [
+      | then-at_least w ↦ subst After (sym w.best-is) (higher_cell v.rules laws v.means cells row x best new c.loop-x.invariant c.get-value.ensures (sym c.at_least.ensures ∙ w.if-at_least.true))
+      | else-at_least w ↦ subst After (sym w.best-is) (lower_cell v.rules laws v.means cells row x best new c.loop-x.invariant c.get-value.ensures (sym c.at_least.ensures ∙ w.if-at_least.false))
     ]
 
 pub returns : goal.returns

@@ -5,7 +5,7 @@ use Rattle.tables.proofs.Ordered.{within_sizes}
 use Rattle.hanging.specs.Forest.{hanging_of}
 use Rattle.figures.proofs.JoinedRoots.{RootsBelow, none_joined, root_passed, root_joined, all_joined}
 use Rattle.figures.proofs.roots.joined_roots.Goals as goal
-use Rattle.figures.proofs.roots.joined_roots.Goals.{then-is-root, else-is-root}
+use Rattle.figures.proofs.roots.joined_roots.Goals.{then-is_root, else-is_root}
 
 pub loop-variable-init : goal.loop-variable-init
 loop-variable-init g c =
@@ -27,12 +27,12 @@ loop-variable-preserved g c =
     let so_far = c.loop-variable.invariant in
     let known : u < variables P = omega (arith, c.loop-variable-test.true, c.requires.variables) in
     let After = RootsBelow v.rules v.means v.within P H cells (u + 1) in
-    elim c.if-is-root.branch [
-      | then-is-root w ↦ subst After (sym w.joined-is)
-          (root_joined v.rules v.means v.within P H cells met.laws u old so_far met.ties (within_sizes t) known (sym c.is-root.ensures ∙ w.if-is-root.true)
-          w.highest-message.result w.join-joined.result w.highest-message.ensures w.join-joined.ensures)
-      | else-is-root w ↦ subst After (sym w.joined-is)
-          (root_passed v.rules v.means v.within P H cells met.laws u old so_far (sym c.is-root.ensures ∙ w.if-is-root.false))
+    elim c.if-is_root.branch [
+      | then-is_root w ↦ subst After (sym w.joined-is)
+          (root_joined v.rules v.means v.within P H cells met.laws u old so_far met.ties (within_sizes t) known (sym c.is_root.ensures ∙ w.if-is_root.true)
+          w.highest_message.result w.join-joined.result w.highest_message.ensures w.join-joined.ensures)
+      | else-is_root w ↦ subst After (sym w.joined-is)
+          (root_passed v.rules v.means v.within P H cells met.laws u old so_far (sym c.is_root.ensures ∙ w.if-is_root.false))
     ]
 
 pub returns : goal.returns

@@ -16,8 +16,8 @@ loop-position-init g c =
     let s = g.V.Scale in
     (none_along s.rules s.means (problem_of c.args.tables.now) c.args.values.now.cells.now c.args.choices.now.cells.now c.args.hung.now, small_zeros)
 
-pub pick-at-next-requires : goal.pick-at-next-requires
-pick-at-next-requires g c =
+pub pick_at-next-requires : goal.pick_at-next-requires
+pick_at-next-requires g c =
     let P = problem_of c.args.tables.now in
     record {
       known = subst (Known P) (sym c.node.ensures) (c.requires.order.only c.loop-position.position (omega (arith, c.count-position-end.ensures, c.loop-position-test.true)));
@@ -38,13 +38,13 @@ loop-position-preserved g c =
     let choices = c.args.choices.now.cells.now in
     let well = c.requires.well in
     let before = c.loop-position.plan in
-    let after = c.pick-at-next.result in (
+    let after = c.pick_at-next.result in (
       along_more s.rules s.means P cells choices hung c.requires.order
           (λ f k. (within_sizes t).sound.known f (H.fun_parent f) k (well.fun_place f k))
           well.var_known
           c.loop-position.position (omega (arith, c.count-position-end.ensures, c.loop-position-test.true)) before after c.loop-position.invariant.0
-          (subst (λ (a : Node). Given s.rules s.means P H cells choices a before after) c.node.ensures c.pick-at-next.ensures.given),
-      c.pick-at-next.ensures.small,
+          (subst (λ (a : Node). Given s.rules s.means P H cells choices a before after) c.node.ensures c.pick_at-next.ensures.given),
+      c.pick_at-next.ensures.small,
     )
 
 pub returns : goal.returns

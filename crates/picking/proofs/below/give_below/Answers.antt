@@ -22,13 +22,13 @@ loop-p-preserved c =
       | then-place w ↦
           let value = get_or xs p 0 in
           let hangs = sym (ap (λ (x : Place). x.below) is) ∙ w.if-place.true in
-          let new : c.if-place.plan ≡ set plan v value = w.plan_is ∙ ap (λ (x : Place). set plan x.variable value) is in
+          let new : c.if-place.plan ≡ set plan v value = w.plan-is ∙ ap (λ (x : Place). set plan x.variable value) is in
           subst (λ (a : List ℕ). Handed s xs (p + 1) c.args.plan a × SmallPlan a) (sym new) (
             handed_more s xs c.args.plan p plan so_far hangs (omega (arith, small.long)) (λ q h. c.requires.distinct q p h inside),
             small_set plan v value small known (omega (arith, c.requires.fits p inside, (s.small p inside).2)),
           )
       | else-place w ↦
-          subst (λ (a : List ℕ). Handed s xs (p + 1) c.args.plan a × SmallPlan a) (sym w.plan_is) (
+          subst (λ (a : List ℕ). Handed s xs (p + 1) c.args.plan a × SmallPlan a) (sym w.plan-is) (
             handed_skip s xs c.args.plan p plan so_far (sym (ap (λ (x : Place). x.below) is) ∙ w.if-place.false),
             small,
           )

@@ -17,8 +17,8 @@ taken-values-requires c =
       small = c.requires.small;
     }
 
-pub give-below-requires : goal.give-below-requires
-give-below-requires c =
+pub give_below-requires : goal.give_below-requires
+give_below-requires c =
     let t = c.args.tables.now in
     record {
       fits = c.taken-values.ensures.fits;
@@ -32,6 +32,6 @@ returns c =
     record {
       below =
           below_given (problem_of t) (within_sizes t).sound (kept_at c.args.kept.now.words) (hanging_of c.args.hung.now) c.args.function c.requires.known c.of-places.result c.of-places.ensures c.requires.well
-          c.args.choices.now.cells.now c.taken-values.result c.args.plan c.give-below.result c.taken-values.ensures.values c.taken-values.ensures.fits c.give-below.ensures.handed;
-      small = c.give-below.ensures.small;
+          c.args.choices.now.cells.now c.taken-values.result c.args.plan c.give_below.result c.taken-values.ensures.values c.taken-values.ensures.fits c.give_below.ensures.handed;
+      small = c.give_below.ensures.small;
     }

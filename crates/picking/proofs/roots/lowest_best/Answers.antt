@@ -2,7 +2,7 @@ use Rattle.std.proofs.Common.{ℕ, ◌+◌, sym, ◌∙◌, subst}
 use Rattle.picking.specs.Steps.{LowestBest}
 use Rattle.picking.proofs.Lowest.{first_alone, best_held, best_raised}
 use Rattle.picking.proofs.roots.lowest_best.Goals as goal
-use Rattle.picking.proofs.roots.lowest_best.Goals.{then-not-at-least, else-not-at-least}
+use Rattle.picking.proofs.roots.lowest_best.Goals.{then-not-at_least, else-not-at_least}
 
 pub loop-value-init : goal.loop-value-init
 loop-value-init g c = first_alone g.V.Scale.rules g.met.V.Scale.laws g.V.Scale.means c.args.values.now.cells.now c.args.variable
@@ -17,11 +17,11 @@ loop-value-preserved g c =
     let Best = λ (b : ℕ). LowestBest v.rules v.means cells c.args.variable (n + 1) b in
     let high = c.get-high.ensures in
     let new = c.get.ensures in
-    elim c.if-not-at-least.branch [
-      | then-not-at-least w ↦
-          subst Best (sym w.best_is)
-          (best_raised v.rules laws v.means cells c.args.variable n best c.loop-value.invariant c.get-high.result c.get.result high new (sym w.if-not-at-least.true ∙ c.at-least.ensures))
-      | else-not-at-least w ↦
-          subst Best (sym w.best_is)
-          (best_held v.rules laws v.means cells c.args.variable n best c.loop-value.invariant c.get-high.result c.get.result high new (sym w.if-not-at-least.false ∙ c.at-least.ensures))
+    elim c.if-not-at_least.branch [
+      | then-not-at_least w ↦
+          subst Best (sym w.best-is)
+          (best_raised v.rules laws v.means cells c.args.variable n best c.loop-value.invariant c.get-high.result c.get.result high new (sym w.if-not-at_least.true ∙ c.at_least.ensures))
+      | else-not-at_least w ↦
+          subst Best (sym w.best-is)
+          (best_held v.rules laws v.means cells c.args.variable n best c.loop-value.invariant c.get-high.result c.get.result high new (sym w.if-not-at_least.false ∙ c.at_least.ensures))
     ]

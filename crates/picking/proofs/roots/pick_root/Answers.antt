@@ -10,9 +10,9 @@ use Rattle.picking.specs.Steps.{LowestBest}
 use Rattle.picking.proofs.Handing.{small_set, root_given}
 use Rattle.picking.proofs.roots.pick_root.Goals as goal
 
-pub lowest-best-requires : goal.lowest-best-requires
+pub lowest_best-requires : goal.lowest_best-requires
 unfolding size
-lowest-best-requires g c =
+lowest_best-requires g c =
     let t = c.args.tables.now in
     let v = c.args.variable in
     let fits = within_sizes t in
@@ -32,12 +32,12 @@ returns-in-None g c =
     let cells = c.args.values.now.cells.now in
     let fits = within_sizes t in
     let is : get_or c.domains.result.now v 0 ≡ size (problem_of t) v = ap (λ (ds : List ℕ). get_or ds v 0) c.domains.ensures in
-    let best = subst (λ (n : ℕ). LowestBest s.rules s.means cells v n c.lowest-best.result) is c.lowest-best.ensures in
+    let best = subst (λ (n : ℕ). LowestBest s.rules s.means cells v n c.lowest_best.result) is c.lowest_best.ensures in
     let root : is_root (hanging_of c.args.hung.now) v ≡ true = ap (λ (x : Variable). no_parent x.parent) (sym c.variable.ensures) ∙ ap no_parent c.in-None.is in
     let inside : v < 64 = omega (arith, c.requires.known, fits.few_variables) in
     record {
-      root = root_given s.rules s.means (problem_of t) (hanging_of c.args.hung.now) cells v c.lowest-best.result c.args.plan (omega (arith, c.requires.small.long)) root best;
-      small = small_set c.args.plan v c.lowest-best.result c.requires.small inside (omega (arith, best.fits, fits.small_domains v c.requires.known));
+      root = root_given s.rules s.means (problem_of t) (hanging_of c.args.hung.now) cells v c.lowest_best.result c.args.plan (omega (arith, c.requires.small.long)) root best;
+      small = small_set c.args.plan v c.lowest_best.result c.requires.small inside (omega (arith, best.fits, fits.small_domains v c.requires.known));
     }
 
 pub returns-in-Some : goal.returns-in-Some
