@@ -5,7 +5,7 @@ use Rattle.scale.specs.Rules.{Rules}
 use Rattle.scale.specs.Laws.{Plain}
 use Rattle.theory.specs.Problem.{Problem, variables, functions, size, function, arity}
 use Rattle.theory.specs.Graphs.{Graph, Whole, Joined, Cycle, every, without}
-use Rattle.theory.specs.Links.{link, graph}
+use Rattle.theory.specs.Links.{graph}
 use Rattle.theory.proofs.Labels.{decide_joined}
 use Rattle.theory.proofs.Parts.{part, number_order}
 use Rattle.theory.proofs.Weighed.{graph_whole}

@@ -10,7 +10,7 @@ use Rattle.hanging.specs.declared.hung.Hung.{Hung}
 use Rattle.hanging.specs.declared.node.Node.{Node}
 use Rattle.hanging.specs.declared.node.Node.TheVariants as node
 use Rattle.hanging.specs.Hung.{no_variable, no_function, variable_at, function_at, hung_node, none_hung, with_variable}
-use Rattle.hanging.specs.Kept.{number, Linked, Neighbours, Reaches}
+use Rattle.hanging.specs.Kept.{Linked, Neighbours, Reaches}
 use Rattle.hanging.specs.Growing.{Sound, Hangs, FreeVariable}
 use Rattle.hanging.proofs.Marking.{Marked, own_variable, marks_variable, stays_marked}
 use Rattle.hanging.proofs.Growing.{stays}

@@ -1,5 +1,5 @@
 -- Each function with a link has a kept one. Assumes nothing.
-use Rattle.std.proofs.Common.{◌≡◌, ℕ, ◌<◌, ◌≤◌, Bool, ◌↔◌, length, refl, arith}
+use Rattle.std.proofs.Common.{◌≡◌, ℕ, ◌<◌, ◌≤◌, Bool, ◌↔◌, length, arith}
 use Rattle.theory.specs.Graphs.{Uses, Joined, stay, along, back, every}
 use Rattle.theory.proofs.Walks.{link_joins, joined_sym}
 use Rattle.layout.specs.declared.layout.Layout.{Layout}

@@ -1,11 +1,11 @@
 -- Combinations and their positions. Assumes nothing.
-use Rattle.std.proofs.Common.{◌≡◌, ℕ, zero, suc, ◌+◌, ◌*◌, ◌/◌, ◌%◌, ◌^◌, ◌<◌, ◌≤◌, Bool, cond, List, [], ◌∷◌, ◌++◌, map, length, get_or, take, sym, refl, ap, ◌∙◌, subst, ap₂, mod-lt, mul_comm, div-lt_iff_lt-mul, mul-le-mul, mul-zero, div-add-mod', zero-mul, add-one, arith}
+use Rattle.std.proofs.Common.{◌≡◌, ℕ, zero, suc, ◌+◌, ◌*◌, ◌/◌, ◌%◌, ◌^◌, ◌<◌, ◌≤◌, Bool, cond, List, [], ◌∷◌, length, get_or, take, sym, refl, ap, ◌∙◌, ap₂, mod-lt, div-lt_iff_lt-mul, mul-le-mul, mul-zero, div-add-mod', zero-mul, arith}
 use native.Mathlib.Nat.{pow-le-pow_right, pow-succ'}
 use lib.Arith.{digits_div, digits_mod}
-use Rattle.std.proofs.lemmas.List.{ext_get_or, get_or-take, length-take-le, take_more}
+use Rattle.std.proofs.lemmas.List.{length-take-le, take_more}
 use Rattle.std.proofs.lemmas.Bool.{cond_both, cond-true}
 use Rattle.theory.specs.Problem.{product, index}
-use Rattle.theory.proofs.Index.{Within, index_below, index_one, index_push, product_push}
+use Rattle.theory.proofs.Index.{Within, index_below, index_one, index_push}
 use Rattle.messages.specs.Combinations.{combination, cleared}
 
 some_product : (s k i : ℕ) → i < s * k → 0 < k

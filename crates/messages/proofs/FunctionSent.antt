@@ -1,25 +1,24 @@
 -- The best entries of a function are its message, and where they stand are its choices. Assumes nothing.
-use Rattle.std.proofs.Common.{◌≡◌, ℕ, ◌+◌, ◌<◌, ◌≤◌, min, Bool, true, false, List, [], ◌∷◌, length, get_or, Some, sym, refl, ap, ◌∙◌, subst, ap₂, inl, inr, ⊎_elim, arith}
+use Rattle.std.proofs.Common.{◌≡◌, ℕ, ◌<◌, min, Bool, true, List, [], ◌∷◌, length, get_or, Some, sym, refl, ap, ◌∙◌, subst, ap₂, inl, inr, ⊎_elim, arith}
 use Rattle.std.proofs.lemmas.Bool.{both_ways}
 use Rattle.scale.specs.Rules.{Rules}
 use Rattle.scale.specs.Laws.{Plain}
-use Rattle.theory.specs.Joins.{Highest, Lowest}
 use Rattle.theory.specs.Problem.{Problem, Plan, Sound, variables, functions, function, size, at, arity}
 use Rattle.theory.specs.Sizes.{Fits}
 use Rattle.theory.specs.Cut.{IsCut}
-use Rattle.theory.specs.Forest.{Hanging, WellHung, hangs, above}
+use Rattle.theory.specs.Forest.{Hanging, WellHung, above}
 use Rattle.theory.specs.Messages.{Messages}
 use Rattle.theory.proofs.Extremes.{highest_unique}
 use Rattle.theory.proofs.Hangs.{hangs_from}
 use Rattle.messages.specs.declared.place.Place.{Place}
 use Rattle.messages.specs.declared.places.Places.{Places}
-use Rattle.messages.specs.Combinations.{combination, sizes_at, cut_position}
+use Rattle.messages.specs.Combinations.{combination, sizes_at}
 use Rattle.messages.specs.Counts.{counts, one_entry}
 use Rattle.messages.specs.Holding.{StandsFor, Holds}
-use Rattle.messages.specs.Places.{PlacesOf, CutWords, place_in, sizes_in, cut_index_lem}
-use Rattle.messages.specs.Positions.{table_length, value_at, ParentAt, CutEntries, from_below_lem, given_at, FirstHighest}
-use Rattle.messages.specs.Sent.{variable_cell, function_cell, choice_cell, VariableSent, FunctionSent}
-use Rattle.messages.specs.Upward.{upward_at, gives, Candidate, Best, best_at, BelowHeld, Supplied, Leads, BestEntries}
+use Rattle.messages.specs.Places.{PlacesOf, CutWords, sizes_in}
+use Rattle.messages.specs.Positions.{table_length, ParentAt, CutEntries, from_below_lem, given_at, FirstHighest}
+use Rattle.messages.specs.Sent.{variable_cell, VariableSent, FunctionSent}
+use Rattle.messages.specs.Upward.{upward_at, gives, Candidate, Best, best_at, Supplied, Leads, BestEntries}
 use Rattle.messages.proofs.AtPositions.{some_position, message_is, takes_is, plan_there}
 use Rattle.messages.proofs.Counting.{r_few}
 use Rattle.messages.proofs.GivenCounts.{given_within}

@@ -1,5 +1,5 @@
 -- A join of several values as it is made, one after the other: what it stands for, and of how many entries it is joined. Assumes nothing.
-use Rattle.std.proofs.Common.{◌≡◌, ℕ, suc, ◌+◌, ◌≤◌, Bool, true, false, sym, refl, ap, ◌∙◌, subst, ap₂, arith}
+use Rattle.std.proofs.Common.{◌≡◌, ℕ, ◌+◌, ◌≤◌, Bool, true, false, sym, refl, ap, ◌∙◌, subst, ap₂, arith}
 use Rattle.scale.specs.Rules.{Rules}
 use Rattle.scale.specs.Laws.{Plain}
 use Rattle.theory.specs.Joins.{joins, when}

@@ -1,10 +1,10 @@
 -- The places of a function, by the problem. Assumes nothing.
-use Rattle.std.proofs.Common.{◌≡◌, ℕ, suc, ◌/◌, ◌%◌, ◌<◌, Bool, List, [], ◌∷◌, map, length, get_or, sym, refl, ap, ◌∙◌, arith}
+use Rattle.std.proofs.Common.{◌≡◌, ℕ, suc, ◌%◌, ◌<◌, Bool, List, [], ◌∷◌, length, get_or, sym, refl, ap, ◌∙◌, arith}
 use Rattle.std.proofs.lemmas.List.{ext_get_or, get_or-map, length-map}
 use Rattle.scale.specs.Rules.{Rules}
-use Rattle.theory.specs.Joins.{joins, when}
-use Rattle.theory.specs.Problem.{Problem, Sound, functions, size, arity, at, scope_of, product, index}
-use Rattle.theory.specs.Forest.{Hanging, WellHung, hangs, above}
+use Rattle.theory.specs.Joins.{when}
+use Rattle.theory.specs.Problem.{Problem, functions, size, arity, at, scope_of, product, index}
+use Rattle.theory.specs.Forest.{Hanging, WellHung, above}
 use Rattle.theory.specs.Links.{link}
 use Rattle.theory.proofs.Joins.{joins_cong}
 use Rattle.messages.specs.declared.place.Place.{Place}

@@ -1,9 +1,9 @@
 -- One node more along the order: what its message needs stands there, and what stood stays. Assumes nothing.
-use Rattle.std.proofs.Common.{◌≡◌, ℕ, ◌+◌, ◌*◌, ◌<◌, ◌≤◌, Bool, ◌⊎◌, List, length, get_or, Some, sym, refl, ap, ◌∙◌, subst, inl, inr, arith}
+use Rattle.std.proofs.Common.{◌≡◌, ℕ, ◌<◌, Bool, List, get_or, sym, refl, ap, ◌∙◌, subst, inl, inr, arith}
 use Rattle.std.proofs.lemmas.Bool.{cases_lt, cases_eq}
 use Rattle.scale.specs.Rules.{Rules}
 use Rattle.theory.specs.Cut.{IsCut}
-use Rattle.theory.specs.Forest.{Hanging, WellHung, above}
+use Rattle.theory.specs.Forest.{Hanging, above}
 use Rattle.theory.specs.Messages.{Messages}
 use Rattle.theory.specs.Problem.{Problem, Plan, variables, functions, size}
 use Rattle.theory.specs.Sizes.{Fits}
@@ -14,10 +14,9 @@ use Rattle.hanging.specs.Forest.{hanging_of, Known, InOrder}
 use Rattle.hanging.specs.Growing.{Before}
 use Rattle.hanging.specs.Hung.{node_at}
 use Rattle.messages.specs.Counts.{counts, one_entry}
-use Rattle.messages.specs.Holding.{StandsFor, Holds}
+use Rattle.messages.specs.Holding.{StandsFor}
 use Rattle.messages.specs.Sending.{node_cells, node_choices, SendsNode}
 use Rattle.messages.specs.Sent.{variable_cell, function_cell, choice_cell, VariableSent, FunctionSent}
-use Rattle.messages.specs.Upward.{OnlyAt}
 
 -- no two nodes share a cell
 module _ (P : Problem) (fits : Fits P) (H : Hanging) (well-above : (f : ℕ) → f < functions P → above P H f < variables P) where

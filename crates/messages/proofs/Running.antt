@@ -1,9 +1,9 @@
 -- The first of the highest so far. Assumes nothing.
-use Rattle.std.proofs.Common.{◌≡◌, ℕ, ◌+◌, ◌<◌, ◌≤◌, Bool, true, false, ◌⊎◌, List, get_or, sym, refl, ap, ◌∙◌, subst, inl, inr, ⊎_elim, arith}
+use Rattle.std.proofs.Common.{◌≡◌, ℕ, ◌+◌, ◌<◌, true, false, List, get_or, sym, refl, ap, ◌∙◌, subst, inl, inr, ⊎_elim, arith}
 use Rattle.std.proofs.lemmas.Bool.{cases_eq, both_ways, cases_Bool}
 use Rattle.scale.specs.Rules.{Rules}
 use Rattle.scale.specs.Laws.{Plain}
-use Rattle.theory.specs.Joins.{joins, when}
+use Rattle.theory.specs.Joins.{when}
 use Rattle.theory.proofs.Joins.{joins_cong}
 use Rattle.messages.specs.declared.places.Places.{Places}
 use Rattle.messages.specs.Holding.{StandsFor}

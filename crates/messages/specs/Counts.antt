@@ -1,5 +1,5 @@
 -- How many entries a value is joined of, as a scale of its own: a message of that scale counts the entries in the message. Assumes nothing.
-use Rattle.std.specs.Prelude.{ℕ, ◌+◌, ◌-◌, Bool, true, leb, pos}
+use Rattle.std.specs.Prelude.{ℕ, ◌+◌, ◌-◌, true, leb, pos}
 use Rattle.scale.specs.Rules.{Rules}
 use Rattle.theory.specs.Problem.{Plan}
 

@@ -1,5 +1,5 @@
 -- A place of a function, as its messages see it. Assumes nothing.
-use Rattle.std.specs.Prelude.{ℕ, ◌<◌, ◌≤◌, false}
+use Rattle.std.specs.Prelude.{◌<◌, ◌≤◌, false}
 use Rattle.messages.specs.declared.place.Place.{Place}
 
 abbrev pub no_place : Place

@@ -1,7 +1,7 @@
 -- The message of a function by the positions of its table. Assumes nothing.
 use Rattle.std.specs.Prelude.{◌≡◌, ℕ, ◌<◌, Bool, true, List, length, slice_index}
 use Rattle.scale.specs.Rules.{Rules}
-use Rattle.theory.specs.Joins.{joins, when, Highest, Lowest}
+use Rattle.theory.specs.Joins.{joins, when, Lowest}
 use Rattle.theory.specs.Problem.{Problem, function, arity, at}
 use Rattle.theory.specs.Forest.{Hanging, hangs}
 use Rattle.messages.specs.Combinations.{combination, sizes_at, cut_position}

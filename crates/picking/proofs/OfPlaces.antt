@@ -1,8 +1,8 @@
 -- What the variables below a function are given, from the function's places to the problem. Assumes nothing.
 use Rattle.std.proofs.Common.{◌≡◌, ℕ, ◌<◌, Bool, List, get_or, take, Some, sym, ap, ◌∙◌, subst, ap₂, arith}
-use Rattle.std.proofs.lemmas.List.{ext_get_or, get_or-map, get_or-take, length-map}
-use Rattle.theory.specs.Problem.{Problem, Sound, variables, functions, size, arity, at, scope_of, product}
-use Rattle.theory.specs.Forest.{Hanging, WellHung, above}
+use Rattle.std.proofs.lemmas.List.{get_or-take}
+use Rattle.theory.specs.Problem.{Problem, Sound, variables, functions, size, arity, at, product}
+use Rattle.theory.specs.Forest.{Hanging, WellHung}
 use Rattle.theory.proofs.Hangs.{hangs_from, hangs_test}
 use Rattle.rules.specs.Figures.{planned}
 use Rattle.messages.specs.declared.place.Place.{Place}

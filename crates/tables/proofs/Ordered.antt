@@ -3,7 +3,7 @@ use Rattle.std.proofs.Common.{◌≡◌, ℕ, zero, suc, ◌+◌, ◌-◌, ◌<�
 use Rattle.std.proofs.lemmas.List.{drop-drop, length-drop, length-take-le, get_or-take}
 use Rattle.std.proofs.lemmas.List.Sums.{sum_by-cons, sum_by_more, sum_by-take-le}
 use Rattle.std.specs.List.{flat_map}
-use Rattle.theory.specs.Problem.{Function, words_in_order, variables, functions, size, scope_of, at, function, product, index, position, Sound}
+use Rattle.theory.specs.Problem.{Function, words_in_order, functions, size, scope_of, at, function, product, index, position, Sound}
 use Rattle.theory.specs.Sizes.{Fits, combinations, all_words}
 use Rattle.layout.proofs.Shapes.{known_here, distinct_here}
 use Rattle.layout.specs.Scopes.{sizes_of, values_of}

@@ -1,4 +1,4 @@
-use Rattle.std.proofs.Common.{◌≤◌, length, get_or}
+use Rattle.std.proofs.Common.{get_or}
 use Rattle.messages.specs.Places.{cut_index_lem}
 use Rattle.messages.proofs.Lowering.{Lows}
 use Rattle.messages.proofs.cutting.lay_cut.Given as goal

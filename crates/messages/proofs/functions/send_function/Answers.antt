@@ -1,14 +1,11 @@
-use Rattle.std.proofs.Common.{◌≡◌, ℕ, ◌-◌, ◌*◌, ◌<◌, ◌≤◌, Bool, List, length, get_or, take, drop, sym, refl, ap, ◌∙◌, subst, ap₂, arith}
+use Rattle.std.proofs.Common.{ℕ, ◌<◌, ◌≤◌, List, length, sym, ap, ◌∙◌, subst, arith}
 use Rattle.theory.specs.Kept.{kept_at}
-use Rattle.theory.specs.Problem.{function, product}
+use Rattle.theory.specs.Problem.{product}
 use Rattle.tables.specs.View.{problem_of}
 use Rattle.tables.proofs.Ordered.{within_sizes}
 use Rattle.hanging.specs.Forest.{hanging_of}
-use Rattle.messages.specs.Combinations.{sizes_at}
-use Rattle.messages.specs.Places.{sizes_in, CutWords}
-use Rattle.messages.specs.Positions.{table_length}
-use Rattle.messages.specs.Sent.{function_cell, choice_cell}
-use Rattle.messages.specs.Upward.{BestEntries, OnlyAt}
+use Rattle.messages.specs.Places.{CutWords}
+use Rattle.messages.specs.Upward.{BestEntries}
 use Rattle.messages.proofs.CutPositions.{table_full}
 use Rattle.messages.proofs.FunctionSent.{function_sent}
 use Rattle.messages.proofs.OfPlaces.{sizes_are, parent_place, parent_size}

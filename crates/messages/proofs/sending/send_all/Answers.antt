@@ -1,4 +1,4 @@
-use Rattle.std.proofs.Common.{◌≡◌, ℕ, ◌+◌, ◌-◌, ◌<◌, ◌≤◌, ◌⊎◌, List, length, get_or, sym, refl, ap, ◌∙◌, subst, inl, inr, arith}
+use Rattle.std.proofs.Common.{◌≡◌, ℕ, ◌+◌, ◌-◌, ◌<◌, sym, refl, ◌∙◌, subst, inl, inr, arith}
 use Rattle.std.proofs.lemmas.Bool.{cases_eq}
 use Rattle.theory.specs.Cut.{IsCut}
 use Rattle.theory.specs.Forest.{Hanging, above}
@@ -12,7 +12,7 @@ use Rattle.hanging.specs.declared.node.Node.TheVariants as node
 use Rattle.hanging.specs.Forest.{hanging_of, Known}
 use Rattle.hanging.specs.Hung.{node_at}
 use Rattle.messages.specs.Counts.{counts, one_entry}
-use Rattle.messages.specs.Holding.{StandsFor, Holds}
+use Rattle.messages.specs.Holding.{StandsFor}
 use Rattle.messages.specs.Sending.{SendsNode, node_cells, node_choices, message_cells, any_choice_cells}
 use Rattle.messages.specs.Upward.{OnlyAt}
 use Rattle.messages.proofs.Passing.{NodeSent, cells_apart, choices_apart, sent_on, sent_here}

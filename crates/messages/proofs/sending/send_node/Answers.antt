@@ -1,13 +1,12 @@
-use Rattle.std.proofs.Common.{◌≡◌, ℕ, ◌<◌, length, get_or, sym, refl, ap, ◌∙◌, subst, arith}
+use Rattle.std.proofs.Common.{ℕ, ◌<◌, sym, refl, subst, arith}
 use Rattle.theory.specs.Kept.{kept_at}
 use Rattle.theory.specs.Problem.{variables}
 use Rattle.tables.specs.View.{problem_of}
 use Rattle.tables.proofs.Ordered.{within_sizes}
 use Rattle.hanging.specs.declared.node.Node.{Node}
-use Rattle.hanging.specs.declared.node.Node.TheVariants as node
 use Rattle.hanging.specs.Forest.{hanging_of, Known}
 use Rattle.messages.specs.Holding.{Holds}
-use Rattle.messages.specs.Sending.{SendsNode, node_cells, node_choices}
+use Rattle.messages.specs.Sending.{SendsNode, node_cells}
 use Rattle.messages.specs.Upward.{OnlyAt}
 use Rattle.messages.proofs.sending.send_node.Goals as goal
 

@@ -1,4 +1,4 @@
-use Rattle.std.proofs.Common.{◌≡◌, ℕ, ◌+◌, ◌*◌, ◌<◌, ◌≤◌, Bool, true, false, ◌⊎◌, List, length, get_or, take, set, sym, refl, ap, ◌∙◌, subst, ap₂, inl, inr, arith}
+use Rattle.std.proofs.Common.{◌≡◌, ℕ, ◌+◌, ◌<◌, ◌≤◌, Bool, true, false, List, length, get_or, set, sym, ap, ◌∙◌, subst, inl, inr, arith}
 use Rattle.std.proofs.lemmas.List.{get_or-take, get_or-set_same, get_or-set_other, length-set}
 use Rattle.std.proofs.lemmas.Bool.{cases_eq}
 use Rattle.scale.specs.Rules.{Rules}
@@ -12,7 +12,7 @@ use Rattle.messages.specs.Places.{place_in, sizes_in, cut_index_lem}
 use Rattle.messages.specs.Sent.{variable_cell, function_cell, choice_cell}
 use Rattle.messages.specs.Upward.{gives, best_at, Best, Candidate, BelowHeld, Supplied, With, Running, BestEntries, OnlyAt}
 use Rattle.messages.proofs.Joining.{join_stands}
-use Rattle.messages.proofs.Running.{upward_same, none_yet, passed, with_one}
+use Rattle.messages.proofs.Running.{upward_same, passed, with_one}
 use Rattle.messages.proofs.upward.best_entries.Goals as goal
 use Rattle.messages.proofs.upward.best_entries.Goals.{then-cut_index_of-at, else-cut_index_of-at}
 

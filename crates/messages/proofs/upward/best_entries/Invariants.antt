@@ -1,4 +1,4 @@
-use Rattle.std.proofs.Common.{◌≡◌, ℕ, ◌<◌, ◌≤◌, length}
+use Rattle.std.proofs.Common.{◌≡◌, ℕ, ◌<◌, length}
 use Rattle.messages.specs.Places.{place_in}
 use Rattle.messages.specs.Sent.{function_cell, choice_cell}
 use Rattle.messages.specs.Upward.{BestEntries, OnlyAt}

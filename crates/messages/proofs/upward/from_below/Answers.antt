@@ -1,5 +1,5 @@
-use Rattle.std.proofs.Common.{◌≡◌, ℕ, ◌+◌, ◌<◌, ◌≤◌, get_or, sym, ap, ◌∙◌, subst, arith}
-use Rattle.theory.specs.Joins.{joins, when}
+use Rattle.std.proofs.Common.{◌≡◌, ℕ, ◌+◌, get_or, sym, subst, arith}
+use Rattle.theory.specs.Joins.{when}
 use Rattle.messages.specs.Counts.{counts}
 use Rattle.messages.specs.Holding.{StandsFor}
 use Rattle.messages.specs.Places.{place_in}

@@ -1,4 +1,4 @@
-use Rattle.std.proofs.Common.{◌≡◌, ℕ, ◌<◌, eqb, List, length, get_or, sym, ap, ◌∙◌, subst, ap₂, arith}
+use Rattle.std.proofs.Common.{ℕ, eqb, List, length, get_or, sym, ap, ◌∙◌, ap₂, arith}
 use Rattle.theory.specs.Problem.{at}
 use Rattle.tables.proofs.Ordered.{scope_is, within_sizes}
 use Rattle.messages.proofs.variables.hangs_under.Goals as goal

@@ -1,17 +1,14 @@
-use Rattle.std.proofs.Common.{◌≡◌, ℕ, ◌+◌, ◌*◌, ◌<◌, ◌≤◌, Bool, true, false, eqb, List, length, get_or, sym, refl, ap, ◌∙◌, subst, ap₂, arith}
-use Rattle.std.proofs.lemmas.List.{get_or-take}
+use Rattle.std.proofs.Common.{◌≡◌, ℕ, ◌+◌, ◌<◌, ◌≤◌, true, false, eqb, List, length, get_or, sym, refl, ap, ◌∙◌, subst, arith}
 use Rattle.std.proofs.lemmas.Bool.{eqb-true}
-use Rattle.theory.specs.Cut.{IsCut}
-use Rattle.theory.specs.Forest.{WellHung, above}
+use Rattle.theory.specs.Forest.{above}
 use Rattle.theory.specs.Joins.{joins, when}
-use Rattle.theory.specs.Messages.{Messages}
-use Rattle.theory.specs.Problem.{Plan, variables, functions, size}
+use Rattle.theory.specs.Problem.{functions, size}
 use Rattle.tables.specs.View.{problem_of}
 use Rattle.tables.proofs.Ordered.{functions_length, within_sizes}
 use Rattle.layout.specs.View.{domains_of, scopes_of}
 use Rattle.hanging.specs.Forest.{hanging_of}
-use Rattle.messages.specs.Counts.{counts, one_entry}
-use Rattle.messages.specs.Holding.{StandsFor, Holds}
+use Rattle.messages.specs.Counts.{counts}
+use Rattle.messages.specs.Holding.{StandsFor}
 use Rattle.messages.specs.Sending.{variable_cells}
 use Rattle.messages.specs.Sent.{variable_cell, function_cell}
 use Rattle.messages.specs.Upward.{OnlyAt}

@@ -1,6 +1,5 @@
 use Rattle.std.proofs.Common.{◌≡◌, ℕ, ◌<◌, Bool, eqb, length}
 use Rattle.theory.specs.Joins.{joins, when}
-use Rattle.theory.specs.Cut.{IsCut}
 use Rattle.theory.specs.Forest.{WellHung, above}
 use Rattle.theory.specs.Messages.{Messages}
 use Rattle.theory.specs.Problem.{Plan, functions, size}

@@ -1,5 +1,5 @@
-use Rattle.std.proofs.Common.{◌≡◌, ℕ, ◌<◌, ◌≤◌, length, get_or, take}
-use Rattle.theory.specs.Problem.{product, index}
+use Rattle.std.proofs.Common.{◌≡◌, take}
+use Rattle.theory.specs.Problem.{index}
 use Rattle.messages.specs.Combinations.{cleared}
 use Rattle.messages.specs.Places.{place_in, sizes_in}
 use Rattle.messages.proofs.places.Places.cut_index.Given as goal

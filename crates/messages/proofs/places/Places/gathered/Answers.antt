@@ -1,4 +1,4 @@
-use Rattle.std.proofs.Common.{◌≡◌, ℕ, ◌<◌, length, sym, ap, ◌∙◌, subst, arith}
+use Rattle.std.proofs.Common.{◌<◌, length, sym, ap, ◌∙◌, subst, arith}
 use Rattle.theory.specs.Problem.{arity, at}
 use Rattle.tables.specs.View.{problem_of}
 use Rattle.tables.proofs.Ordered.{scope_is, within_sizes}

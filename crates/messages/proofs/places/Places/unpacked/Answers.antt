@@ -1,7 +1,7 @@
-use Rattle.std.proofs.Common.{◌≡◌, ℕ, ◌+◌, ◌-◌, ◌/◌, ◌%◌, ◌<◌, ◌≤◌, List, length, get_or, take, set, sym, ap, ◌∙◌, subst, ap₂, inl, inr, mod-lt, arith}
+use Rattle.std.proofs.Common.{◌≡◌, ℕ, ◌+◌, ◌-◌, ◌/◌, ◌%◌, ◌<◌, get_or, take, set, sym, ap, ◌∙◌, subst, ap₂, inl, inr, mod-lt, arith}
 use Rattle.std.proofs.lemmas.List.{ext_get_or, get_or-set_same, get_or-set_other, get_or-take, length-set, length-take-le, take_all}
 use Rattle.std.proofs.lemmas.Bool.{cases_eq}
-use Rattle.theory.specs.Problem.{product, index}
+use Rattle.theory.specs.Problem.{index}
 use Rattle.messages.specs.Combinations.{combination}
 use Rattle.messages.specs.Places.{place_in, sizes_in}
 use Rattle.messages.proofs.Combining.{combination_within, index_combination, within_length, last_value, rest_value}

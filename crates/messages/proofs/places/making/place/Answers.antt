@@ -1,4 +1,4 @@
-use Rattle.std.proofs.Common.{◌≡◌, ℕ, ◌+◌, ◌*◌, ◌<◌, Bool, List, length, get_or, sym, ap, ◌∙◌, subst, ap₂, arith}
+use Rattle.std.proofs.Common.{◌≡◌, ℕ, ◌<◌, Bool, List, length, get_or, sym, ap, ◌∙◌, subst, ap₂, arith}
 use Rattle.theory.specs.Problem.{size, at}
 use Rattle.theory.specs.Forest.{hangs}
 use Rattle.hanging.specs.Forest.{hanging_of}
