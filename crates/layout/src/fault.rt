@@ -1,6 +1,6 @@
 // Why a problem declines what it is asked.
 ghost use Rattle.std.specs.Prelude.{◌≡◌};
-ghost use Rattle.layout.specs.declared.fault.ProblemFault.TheVariants.{Scale as of-scale};
+ghost use Rattle.layout.specs.declared.fault.ProblemFault.TheVariants.{Scale as of_scale};
 ghost use Rattle.layout.specs.Numbers.{problem_number};
 
 use scale::ScaleFault;
@@ -44,7 +44,7 @@ pub enum ProblemFault {
 }
 
 impl From<ScaleFault> for ProblemFault {
-    ghost from_gives = { λ f r. r ≡ of-scale f };
+    ghost from_gives = { λ f r. r ≡ of_scale f };
 
     fn from(cause: ScaleFault) -> ProblemFault {
         ProblemFault::Scale(cause)

@@ -15,14 +15,14 @@ module _ {X : Type 0} {leq : X → X → Bool} {join : X → X → X} {neutral :
   pub other_way : (a b : X) → leq a b ≡ false → leq b a ≡ true
   other_way a b h = ⊎_elim (λ e. absurd (both_ways (leq a b) h e)) (λ e. e) (l.total a b)
 
-  pub not-true : {b : Bool} → (b ≢ true) → b ≡ false
-  not-true {b} h = ⊎_elim (λ e. absurd (h e)) (λ e. e) (cases_Bool b)
+  pub not_true : {b : Bool} → (b ≢ true) → b ≡ false
+  not_true {b} h = ⊎_elim (λ e. absurd (h e)) (λ e. e) (cases_Bool b)
 
   pub lt_le : (a b c : X) → leq b a ≡ false → leq b c ≡ true → leq c a ≡ false
-  lt_le a b c h k = not-true (λ e. both_ways (leq b a) h (l.trans b c a k e))
+  lt_le a b c h k = not_true (λ e. both_ways (leq b a) h (l.trans b c a k e))
 
   pub le_lt : (a b c : X) → leq a b ≡ true → leq c b ≡ false → leq c a ≡ false
-  le_lt a b c h k = not-true (λ e. both_ways (leq c b) k (l.trans c a b e h))
+  le_lt a b c h k = not_true (λ e. both_ways (leq c b) k (l.trans c a b e h))
 
 pub pair_same : {X Y : Type 0} (a b : X × Y) → a.0 ≡ b.0 → a.1 ≡ b.1 → a ≡ b
 pair_same a b p q = ap (λ x. (x, a.1)) p ∙ ap (λ y. (b.0, y)) q
