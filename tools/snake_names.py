@@ -4,7 +4,7 @@
 usage: python3 tools/snake_names.py [--list]     at the top of the repository
 
 A name is renamed where it is declared below crates/*/specs or crates/*/proofs with a dash in it, and no library has it;
-where the name in snake case is taken, `_lem` is put behind it.
+where the name in snake case is taken, `_lem` is put behind a lemma. A word of specs/ may have the name of a function.
 The names of goals and of their parts, which the check makes from the code, keep their dashes.
 --list prints the renamings and writes nothing.
 """
@@ -32,18 +32,20 @@ def read(path):
 
 def renamings(root):
     own = "|".join(sorted(os.listdir(os.path.join(root, "crates"))))
-    declared, kept, all_names = set(), set(), set()
+    declared, kept, all_names, words = set(), set(), set(), set()
     for path in files(root, ".antt"):
         text = read(path)
         all_names |= set(NAME.findall(text))
-        declared |= {n for n in DECLARED.findall(text) if "-" in n}
+        here = {n for n in DECLARED.findall(text) if "-" in n}
+        declared |= here
+        words |= here if "/specs/" in path else set()
         kept |= set(GOAL.findall(text))
         for _, names in re.findall(LIBRARY.pattern % own, text, re.M):
             kept |= {n.strip().split(" ")[0] for n in names.split(",")}
     turned = {}
     for name in sorted(declared - kept):
         new = name.replace("-", "_")
-        if new in all_names or new in turned.values():
+        if new in turned.values() or (new in all_names and name not in words):
             new += "_lem"
             if new in all_names or new in turned.values():
                 print(f"falls together: {name} and {new}", file=sys.stderr)

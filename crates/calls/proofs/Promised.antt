@@ -124,7 +124,7 @@ module _ {E : Type 0} (R : Rules E) where
     reached = λ r. (r.0, r.1 ++ ((call, answer) ∷ []), r.2, runs_more r.1 r.0 r.3 step);
     plainly_reached = λ ok r. (r.0, r.1 ++ ((call, answer) ∷ []), r.2, plain_more r.1 call answer r.3 ok, runs_more r.1 r.0 r.4 step);
     plain_promise = plain_promised L;
-    measuring_promise_lem = measuring_promised L;
+    measuring_promise = measuring_promised L;
   }
 
   -- what a report guarantees in a state that calls have reached

@@ -52,4 +52,4 @@ module _ {E : Type 0} (R : Rules E) where
     pub reached : Reached s → Reached t
     pub plainly_reached : plain call ≡ true → PlainlyReached s → PlainlyReached t
     pub plain_promise : PlainPromise
-    pub measuring_promise_lem : Gaps R → MeasuringPromise
+    pub measuring_promise : Gaps R → MeasuringPromise

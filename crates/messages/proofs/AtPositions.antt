@@ -17,13 +17,13 @@ use Rattle.theory.proofs.PlaceOrder.{counting, hangs_there, its_place, place_ord
 use Rattle.theory.proofs.Plans.{put_here, put_valid, nothing, nothing_valid}
 use Rattle.rules.specs.Report.{Takes}
 use Rattle.messages.specs.Combinations.{combination, sizes_at, cut_position}
-use Rattle.messages.specs.Positions.{table_length, ParentAt, value_at, CutEntries, from_below_lem, given_at, FirstHighest}
+use Rattle.messages.specs.Positions.{table_length, ParentAt, value_at, CutEntries, from_below, given_at, FirstHighest}
 use Rattle.messages.proofs.CutPositions.{position_values, position_below, position_value, plan_at, value_fits, cut_there, kept_value, removed_value, cut_none, cut_is}
 
 -- What comes up depends only on the values at the places whose variables hang from f.
 below_same : {E : Type 0} (R : Rules E) (P : Problem) (H : Hanging) (f : ℕ) (q q' : ℕ → ℕ → E) (xs ys : List ℕ) →
     ((p : ℕ) → p < arity P f → hangs (H.var_parent (at P f p)) f ≡ true → q (at P f p) (get_or xs p 0) ≡ q' (at P f p) (get_or ys p 0)) →
-    from_below_lem R P H q f xs ≡ from_below_lem R P H q' f ys
+    from_below R P H q f xs ≡ from_below R P H q' f ys
 below_same R P H f q q' xs ys same = joins_cong R (arity P f) (λ p place. when_cong R (hangs (H.var_parent (at P f p)) f) (same p place))
 
 module _ (P : Problem) (sound : Sound P) (kept : ℕ → Bool) (H : Hanging) (hung : WellHung P kept H) (f : ℕ) (known : f < functions P) where
@@ -68,13 +68,13 @@ module _ (P : Problem) (sound : Sound P) (kept : ℕ → Bool) (H : Hanging) (hu
       (y, valid, sym (position_value P sound f known y valid (H.fun_parent f) parent_place) ∙ ap (λ (j : ℕ). value_at P f j (H.fun_parent f)) is ∙ here, is)
 
 module _ {E : Type 0} (R : Rules E) (P : Problem) (sound : Sound P) (kept : ℕ → Bool) (H : Hanging) (hung : WellHung P kept H) (f : ℕ) (known : f < functions P) where
-  pub below_cut : (q : ℕ → ℕ → E) (i : ℕ) → i < table_length P f → from_below_lem R P H q f (combination (sizes_at P f) (cut_position P kept f i)) ≡ from_below_lem R P H q f (combination (sizes_at P f) i)
+  pub below_cut : (q : ℕ → ℕ → E) (i : ℕ) → i < table_length P f → from_below R P H q f (combination (sizes_at P f) (cut_position P kept f i)) ≡ from_below R P H q f (combination (sizes_at P f) i)
   below_cut q i low = below_same R P H f q q (combination (sizes_at P f) (cut_position P kept f i)) (combination (sizes_at P f) i) (λ p place e.
       ap (q (at P f p)) (kept_value P sound kept f known i low p place (below_kept P sound kept H hung f known p place e)))
 
   -- Messages that are the same at the variables that hang from f give the same.
   module _ (q q' : ℕ → ℕ → E) (same : (u x : ℕ) → u < variables P → H.var_parent u ≡ Some f → x < size P u → q u x ≡ q' u x) where
-    pub from_below_same : (i : ℕ) → i < table_length P f → from_below_lem R P H q f (combination (sizes_at P f) i) ≡ from_below_lem R P H q' f (combination (sizes_at P f) i)
+    pub from_below_same : (i : ℕ) → i < table_length P f → from_below R P H q f (combination (sizes_at P f) i) ≡ from_below R P H q' f (combination (sizes_at P f) i)
     from_below_same i low = below_same R P H f q q' (combination (sizes_at P f) i) (combination (sizes_at P f) i) (λ p place e.
         same (at P f p) (value_at P f i p) (sound.known f p known place) (hangs_from (H.var_parent (at P f p)) f e) (value_fits P sound f known i low p place))
 
@@ -90,14 +90,14 @@ module _ {E : Type 0} (R : Rules E) (P : Problem) (sound : Sound P) (kept : ℕ 
 
 module _ {E : Type 0} (R : Rules E) (L : Plain R) (P : Problem) (sound : Sound P) (kept : ℕ → Bool) (H : Hanging) (hung : WellHung P kept H) (f : ℕ) (known : f < functions P) where
   -- What comes up to f at a plan comes up at the plan's values.
-  pub below_is : (q : ℕ → ℕ → E) (y : Plan) → from_variables R P H q f y ≡ from_below_lem R P H q f (map y (scope_of P f))
+  pub below_is : (q : ℕ → ℕ → E) (y : Plan) → from_variables R P H q f y ≡ from_below R P H q f (map y (scope_of P f))
   unfolding at
   below_is q y =
       place_order R L P sound kept H hung q f known y
       ∙ joins_cong R (arity P f) (λ p place. ap₂ (when R) (counts_hangs P sound kept H hung f known p place) (ap (q (at P f p)) (sym (get_or-map y (scope_of P f) p 0 0 place))))
 
-  pub below_at : (q : ℕ → ℕ → E) (y : Plan) → Valid P y → from_variables R P H q f y ≡ from_below_lem R P H q f (combination (sizes_at P f) (position P f y))
-  below_at q y valid = below_is q y ∙ ap (from_below_lem R P H q f) (sym (position_values P sound f known y valid))
+  pub below_at : (q : ℕ → ℕ → E) (y : Plan) → Valid P y → from_variables R P H q f y ≡ from_below R P H q f (combination (sizes_at P f) (position P f y))
+  below_at q y valid = below_is q y ∙ ap (from_below R P H q f) (sym (position_values P sound f known y valid))
 
   -- Over a cut table by positions.
   module _ (c : ℕ → E) (entries : CutEntries R P kept f c) (cut : ℕ → Plan → E) (is_cut : IsCut R P kept cut) where

@@ -16,7 +16,7 @@ use Rattle.messages.specs.Combinations.{combination, sizes_at}
 use Rattle.messages.specs.Counts.{counts, one_entry}
 use Rattle.messages.specs.Holding.{StandsFor, Holds}
 use Rattle.messages.specs.Places.{PlacesOf, CutWords, sizes_in}
-use Rattle.messages.specs.Positions.{table_length, ParentAt, CutEntries, from_below_lem, given_at, FirstHighest}
+use Rattle.messages.specs.Positions.{table_length, ParentAt, CutEntries, from_below, given_at, FirstHighest}
 use Rattle.messages.specs.Sent.{variable_cell, VariableSent, FunctionSent}
 use Rattle.messages.specs.Upward.{upward_at, gives, Candidate, Best, best_at, Supplied, Leads, BestEntries}
 use Rattle.messages.proofs.AtPositions.{some_position, message_is, takes_is, plan_there}
@@ -56,8 +56,8 @@ module _ {V E : Type 0} (R : Rules E) (L : Plain R) (means : V → E) (within : 
   from_candidate x j low (own, here) =
       ((low, sym (cut_index_is P kept H f s of j) ∙ own), sym (ap₂ (λ (sizes : List ℕ) (p : ℕ). get_or (combination sizes j) p 0) (sizes_are P kept H f s of) of.parent) ∙ here)
 
-  up_is : {M : Type 0} (S : Rules M) (q : ℕ → ℕ → M) (j : ℕ) → upward_at S s q j ≡ from_below_lem S P H q f (combination (sizes_at P f) j)
-  up_is S q j = upward_is P kept H f s of S q (combination (sizes_in s) j) ∙ ap (λ (sizes : List ℕ). from_below_lem S P H q f (combination sizes j)) (sizes_are P kept H f s of)
+  up_is : {M : Type 0} (S : Rules M) (q : ℕ → ℕ → M) (j : ℕ) → upward_at S s q j ≡ from_below S P H q f (combination (sizes_at P f) j)
+  up_is S q j = upward_is P kept H f s of S q (combination (sizes_in s) j) ∙ ap (λ (sizes : List ℕ). from_below S P H q f (combination sizes j)) (sizes_are P kept H f s of)
 
   gives_is : (q : ℕ → ℕ → E) (j : ℕ) → gives R s cuts q j ≡ given_at R P H q cut_at f j
   unfolding cut_at

@@ -10,8 +10,8 @@ use Rattle.theory.proofs.Joins.{joins_cong}
 use Rattle.messages.specs.declared.place.Place.{Place}
 use Rattle.messages.specs.declared.places.Places.{Places}
 use Rattle.messages.specs.Combinations.{combination, cleared, sizes_at, cut_position}
-use Rattle.messages.specs.Places.{PlacesOf, place_in, sizes_in, cut_index_lem}
-use Rattle.messages.specs.Positions.{from_below_lem}
+use Rattle.messages.specs.Places.{PlacesOf, place_in, sizes_in, cut_index}
+use Rattle.messages.specs.Positions.{from_below}
 use Rattle.messages.specs.Upward.{upward}
 use Rattle.messages.proofs.Combining.{cleared_same}
 use Rattle.messages.proofs.PlaceSizes.{sizes_length, size_is}
@@ -32,7 +32,7 @@ module _ (P : Problem) (kept : ℕ → Bool) (H : Hanging) (f : ℕ) (s : Places
       ∙ ap (λ (x : Place). x.size) (of.each p (omega arith))
       ∙ sym (get_or-map (size P) (scope_of P f) p 0 0 (omega arith)))
 
-  pub cut_index_is : (i : ℕ) → cut_index_lem s i ≡ cut_position P kept f i
+  pub cut_index_is : (i : ℕ) → cut_index s i ≡ cut_position P kept f i
   cut_index_is i =
       let long = combination_length (sizes_in s) i in
       let wide = sizes_length s in
@@ -40,7 +40,7 @@ module _ (P : Problem) (kept : ℕ → Bool) (H : Hanging) (f : ℕ) (s : Places
       ap (index (sizes_in s)) (cleared_same (λ p. (place_in s p).kept) (λ p. kept (link f p)) (combination (sizes_in s) i) (λ p h. ap (λ (x : Place). x.kept) (of.each p (omega arith))))
       ∙ ap (λ (sizes : List ℕ). index sizes (cleared (λ p. kept (link f p)) (combination sizes i))) sizes_are
 
-  pub upward_is : {E : Type 0} (R : Rules E) (q : ℕ → ℕ → E) (xs : List ℕ) → upward R s q xs s.count ≡ from_below_lem R P H q f xs
+  pub upward_is : {E : Type 0} (R : Rules E) (q : ℕ → ℕ → E) (xs : List ℕ) → upward R s q xs s.count ≡ from_below R P H q f xs
   upward_is R q xs =
       ap (upward R s q xs) of.count
       ∙ joins_cong R (arity P f) (λ p h. ap (λ (x : Place). when R x.below (q x.variable (get_or xs p 0))) (of.each p h))

@@ -18,14 +18,14 @@ abbrev pub sizes_in : Places → List ℕ
 sizes_in s = map (λ (p : Place). p.size) (take s.count s.list)
 
 -- the index with 0 at the removed places, and the values of the index i at the kept places
-abbrev pub cut_index_lem : Places → ℕ → ℕ
-cut_index_lem s i = index (sizes_in s) (cleared (λ p. (place_in s p).kept) (combination (sizes_in s) i))
+abbrev pub cut_index : Places → ℕ → ℕ
+cut_index s i = index (sizes_in s) (cleared (λ p. (place_in s p).kept) (combination (sizes_in s) i))
 
 -- The words are the cut table: at each index with 0 at the removed places, the lowest entry of the indices with the same values at the kept places.
 abbrev pub CutWords : {E : Type 0} → Rules E → Places → List ℕ → List ℕ → Type 0
 CutWords R s table words =
-    (k : ℕ) → k < length table → cut_index_lem s k ≡ k → (d : ℕ) →
-    Lowest R (λ j. (j < length table) × (cut_index_lem s j ≡ k)) (λ j. R.reads (slice_index table j)) (R.reads (slice_index_or words k d))
+    (k : ℕ) → k < length table → cut_index s k ≡ k → (d : ℕ) →
+    Lowest R (λ j. (j < length table) × (cut_index s j ≡ k)) (λ j. R.reads (slice_index table j)) (R.reads (slice_index_or words k d))
 
 -- the place p of the function f, with the kept links, hung as H says
 abbrev pub place_at : Problem → (ℕ → Bool) → Hanging → ℕ → ℕ → Place

@@ -33,12 +33,12 @@ module _ {E : Type 0} (R : Rules E) (P : Problem) where
 
   module _ (H : Hanging) (q : ℕ → ℕ → E) where
     -- For messages q of variables: what comes up to f at some values of its places, from the variables below it.
-    abbrev pub from_below_lem : ℕ → List ℕ → E
-    from_below_lem f xs = joins R (arity P f) (λ p. when R (hangs (H.var_parent (at P f p)) f) (q (at P f p) (slice_index xs p)))
+    abbrev pub from_below : ℕ → List ℕ → E
+    from_below f xs = joins R (arity P f) (λ p. when R (hangs (H.var_parent (at P f p)) f) (q (at P f p) (slice_index xs p)))
 
     -- what f gives at position i, with what comes up to it there, where c is its cut table
     abbrev pub given_at : (ℕ → E) → ℕ → ℕ → E
-    given_at c f i = R.join (c i) (from_below_lem f (combination (sizes_at P f) i))
+    given_at c f i = R.join (c i) (from_below f (combination (sizes_at P f) i))
 
     -- best is the highest of what f gives where its parent has the value x, and i the first position that gives it
     pub record FirstHighest (kept : ℕ → Bool) (c : ℕ → E) (f x : ℕ) (best : E) (i : ℕ) : Type 0 where

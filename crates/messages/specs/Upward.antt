@@ -6,7 +6,7 @@ use Rattle.messages.specs.declared.places.Places.{Places}
 use Rattle.messages.specs.Combinations.{combination}
 use Rattle.messages.specs.Counts.{counts}
 use Rattle.messages.specs.Holding.{StandsFor, Holds}
-use Rattle.messages.specs.Places.{place_in, sizes_in, cut_index_lem}
+use Rattle.messages.specs.Places.{place_in, sizes_in, cut_index}
 use Rattle.messages.specs.Sent.{variable_cell, function_cell, choice_cell}
 
 -- For messages q of variables: what comes up at the values xs from the variables below, by the first k places.
@@ -23,7 +23,7 @@ gives R s cuts q j = R.join (R.reads (slice_index cuts j)) (upward_at R s q j)
 
 -- The index j has 0 at the removed places, and the value x at the place by which the function hangs.
 abbrev pub Candidate : Places → ℕ → ℕ → Type 0
-Candidate s x j = (cut_index_lem s j ≡ j) × (slice_index (combination (sizes_in s) j) s.parent ≡ x)
+Candidate s x j = (cut_index s j ≡ j) × (slice_index (combination (sizes_in s) j) s.parent ≡ x)
 
 -- The best entry so far, if one was seen, and the index where it stands.
 pub record Best (V : Type 0) : Type 0 where

@@ -10,7 +10,7 @@ use Rattle.theory.specs.Problem.{Problem, Plan, Valid, Sound, put, product, inde
 use Rattle.theory.proofs.Index.{index_below}
 use Rattle.theory.proofs.Plans.{put_same, nothing, nothing_valid}
 use Rattle.theory.proofs.Positions.{map_within, positions}
-use Rattle.weights.specs.Swings.{values_at_lem, stride_at, base, along, SwingFrom, Widest}
+use Rattle.weights.specs.Swings.{values_at, stride_at, base, along, SwingFrom, Widest}
 use Rattle.weights.proofs.Bases.{from_base, same_digits, count, inside}
 use Rattle.weights.proofs.Split.{product_split, index_split, put_values}
 use Rattle.weights.proofs.Strides.{some_value}
@@ -31,14 +31,14 @@ module _ (P : Problem) (sound : Sound P) (f : ℕ) (known : f < functions P) (p 
   pub before : ℕ
   before = product (map (size P) (take p (scope_of P f)))
 
-  pub whole : length (function P f).words ≡ before * values_at_lem P f p * stride_at P f p
+  pub whole : length (function P f).words ≡ before * values_at P f p * stride_at P f p
   unfolding before at
   whole = sound.full f known ∙ rw (add-one p) (product_split (size P) (scope_of P f) p place)
 
   pub some_word : 0 < length (function P f).words
   some_word = omega (arith, (positions P sound f known).within (nothing P) (nothing_valid P sound))
 
-  position_put : (y : Plan) (x : ℕ) → position P f (put y (at P f p) x) ≡ (early y * values_at_lem P f p + x) * stride_at P f p + late y
+  position_put : (y : Plan) (x : ℕ) → position P f (put y (at P f p) x) ≡ (early y * values_at P f p + x) * stride_at P f p + late y
   unfolding position at early late at_variables
   position_put y x =
       ap (index (map (size P) (scope_of P f))) (put_values y (scope_of P f) p x place (λ q k. sound.distinct f q p known k place))
@@ -64,14 +64,14 @@ module _ (P : Problem) (sound : Sound P) (f : ℕ) (known : f < functions P) (p 
   module _ {E : Type 0} (R : Rules E) where
     -- the gap g stands in the table, for the combination k of the other values
     abbrev Stands : ℕ → E → Type 0
-    Stands k g = (k < length (function P f).words / values_at_lem P f p) × SwingFrom R (function P f).words (values_at_lem P f p) (stride_at P f p) (base (values_at_lem P f p) (stride_at P f p) k) g
+    Stands k g = (k < length (function P f).words / values_at P f p) × SwingFrom R (function P f).words (values_at P f p) (stride_at P f p) (base (values_at P f p) (stride_at P f p) k) g
 
     -- Where k is the combination of the plan's other values, the entries along the place are those of the function.
     same_entries : (y : Plan) (k : ℕ) → early y ≡ k / stride_at P f p → late y ≡ k % stride_at P f p →
-        (λ (x : ℕ). entry R P f (put y (at P f p) x)) ≡ along R (function P f).words (stride_at P f p) (base (values_at_lem P f p) (stride_at P f p) k)
+        (λ (x : ℕ). entry R P f (put y (at P f p) x)) ≡ along R (function P f).words (stride_at P f p) (base (values_at P f p) (stride_at P f p) k)
     unfolding entry
     same_entries y k u w =
-        let d = values_at_lem P f p in
+        let d = values_at P f p in
         let s = stride_at P f p in
         fun_ext (λ x. ap (λ (i : ℕ). R.reads (get_or (function P f).words i 0))
         (position_put y x ∙ ap₂ (λ (q r : ℕ). (q * d + x) * s + r) u w ∙ sym (from_base d s (k / s) x (k % s))))
@@ -79,7 +79,7 @@ module _ (P : Problem) (sound : Sound P) (f : ℕ) (known : f < functions P) (p 
     to_table : (g : E) → Swing R P f p g → (k : ℕ) × Stands k g
     to_table g swing =
         let y = swing.others in
-        let d = values_at_lem P f p in
+        let d = values_at P f p in
         let s = stride_at P f p in
         let low = late_below y swing.valid in
         let k = early y * s + late y in
@@ -101,7 +101,7 @@ module _ (P : Problem) (sound : Sound P) (f : ℕ) (known : f < functions P) (p 
     from_table : (k : ℕ) (g : E) → Stands k g → Swing R P f p g
     from_table k g (few, swing) =
         let v = at P f p in
-        let d = values_at_lem P f p in
+        let d = values_at P f p in
         let s = stride_at P f p in
         let some = some_value P sound f known p place in
         let there : base d s k < length (function P f).words = omega (arith, inside d s before (length (function P f).words) whole some_word k few 0 some) in
@@ -122,11 +122,11 @@ module _ (P : Problem) (sound : Sound P) (f : ℕ) (known : f < functions P) (p 
         }
 
     -- What is widest in the table is the weight.
-    pub weighs : (table : List ℕ) (values stride : ℕ) (w : E) → table ≡ (function P f).words → values ≡ values_at_lem P f p → stride ≡ stride_at P f p →
+    pub weighs : (table : List ℕ) (values stride : ℕ) (w : E) → table ≡ (function P f).words → values ≡ values_at P f p → stride ≡ stride_at P f p →
         Widest R table values stride (length table / values) w → Weighs R P f p w
     weighs table values stride w t v s widest =
         let ws = (function P f).words in
-        let d = values_at_lem P f p in
+        let d = values_at P f p in
         let by-table = subst (λ (xs : List ℕ). Widest R xs values stride (length xs / values) w) t widest in
         let by_values = subst (λ (n : ℕ). Widest R ws n stride (length ws / n) w) v by-table in
         let here = subst (λ (n : ℕ). Widest R ws d n (length ws / d) w) s by_values in

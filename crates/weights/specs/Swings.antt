@@ -5,8 +5,8 @@ use Rattle.theory.specs.Joins.{Highest, Lowest}
 use Rattle.theory.specs.Problem.{Problem, product, size, scope_of, at}
 
 -- how many values the variable at place p of the function f has
-abbrev pub values_at_lem : Problem → ℕ → ℕ → ℕ
-values_at_lem P f p = size P (at P f p)
+abbrev pub values_at : Problem → ℕ → ℕ → ℕ
+values_at P f p = size P (at P f p)
 
 -- how many combinations of values the later places have: entries that differ by one in the value at p stand so far apart
 abbrev pub stride_at : Problem → ℕ → ℕ → ℕ

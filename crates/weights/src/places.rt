@@ -2,7 +2,7 @@
 ghost use Rattle.std.specs.Prelude.{◌≡◌, ◌<◌};
 ghost use Rattle.theory.specs.Problem.{functions, arity};
 ghost use Rattle.tables.specs.View.{problem_of};
-ghost use Rattle.weights.specs.Swings.{values_at_lem, stride_at};
+ghost use Rattle.weights.specs.Swings.{values_at, stride_at};
 
 use tables::Tables;
 
@@ -10,7 +10,7 @@ use tables::Tables;
 pub(crate) fn values_at(tables: &Tables, function: usize, place: usize) -> usize
     requires function { function < functions (problem_of tables.now) }
     requires place { place < arity (problem_of tables.now) function }
-    ensures value { result ≡ values_at_lem (problem_of tables.now) function place }
+    ensures value { result ≡ values_at (problem_of tables.now) function place }
     ensures some { 0 < result }
 {
     let scope = tables.layout.scope(function);

@@ -3,7 +3,7 @@ ghost use Rattle.std.specs.Prelude.{◌≡◌, ℕ, ◌+◌, ◌*◌, ◌/◌, �
 ghost use Rattle.theory.specs.Cut.{Weighs};
 ghost use Rattle.theory.specs.Problem.{functions, arity};
 ghost use Rattle.tables.specs.View.{problem_of};
-ghost use Rattle.weights.specs.Swings.{values_at_lem, stride_at, SwingFrom, Widest};
+ghost use Rattle.weights.specs.Swings.{values_at, stride_at, SwingFrom, Widest};
 
 use scale::Measuring;
 use tables::Tables;
@@ -59,7 +59,7 @@ pub(crate) fn link_weight<V: Measuring>(
 ) -> V
     requires function { function < functions (problem_of tables.now) }
     requires place { place < arity (problem_of tables.now) function }
-    requires values { values ≡ values_at_lem (problem_of tables.now) function place }
+    requires values { values ≡ values_at (problem_of tables.now) function place }
     requires stride { stride ≡ stride_at (problem_of tables.now) function place }
     ensures value { Weighs V.Scale.rules (problem_of tables.now) function place (V.Scale.means result) }
     ensures within { V.Scale.within 2 result }

@@ -2,7 +2,7 @@
 ghost use Rattle.std.specs.Prelude.{◌≡◌, ℕ, ◌<◌, ◌≤◌, take, slice_index};
 ghost use Rattle.theory.specs.Problem.{product, index};
 ghost use Rattle.messages.specs.Combinations.{combination, cleared};
-ghost use Rattle.messages.specs.Places.{place_in, sizes_in, cut_index_lem};
+ghost use Rattle.messages.specs.Places.{place_in, sizes_in, cut_index};
 
 use crate::places::Places;
 
@@ -47,7 +47,7 @@ impl Places {
     // The index with 0 at the removed places, and the values of this one at the kept places.
     pub(crate) fn cut_index_of(&self, index: usize) -> usize
         requires { index < product (sizes_in self.now) }
-        ensures value { result ≡ cut_index_lem self.now index }
+        ensures value { result ≡ cut_index self.now index }
         ensures low { result ≤ index }
     {
         self.cut_index(self.combination(index))

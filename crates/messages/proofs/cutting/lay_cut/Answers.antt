@@ -1,7 +1,7 @@
 use Rattle.std.proofs.Common.{◌≡◌, ℕ, ◌+◌, ◌<◌, true, false, ◌⊎◌, length, get_or, set, sym, refl, ap, ◌∙◌, subst, inl, inr, arith}
 use Rattle.std.proofs.lemmas.List.{get_or_default}
 use Rattle.theory.specs.Problem.{product}
-use Rattle.messages.specs.Places.{sizes_in, place_in, cut_index_lem}
+use Rattle.messages.specs.Places.{sizes_in, place_in, cut_index}
 use Rattle.messages.proofs.Combining.{key_low, key_twice}
 use Rattle.messages.proofs.Lowering.{Lows, lows_step}
 use Rattle.messages.proofs.cutting.lay_cut.Goals as goal
@@ -18,8 +18,8 @@ loop-at-preserved g c =
     let read = λ (j : ℕ). v.rules.reads (get_or c.args.table.now j 0) in
     let key_is = c.cut_index_of-key.ensures.value in
     let inside : i < product (sizes_in s) = omega (arith, c.requires.table, c.loop-at-test.true) in
-    subst (λ (n : ℕ). Lows v.rules g.met.V.Scale.laws v.rules.reads (cut_index_lem s) read (i + 1) (set words n c.if-key-at.low)) (sym key_is)
-    (lows_step v.rules g.met.V.Scale.laws v.rules.reads (cut_index_lem s) read i words new c.if-key-at.low
+    subst (λ (n : ℕ). Lows v.rules g.met.V.Scale.laws v.rules.reads (cut_index s) read (i + 1) (set words n c.if-key-at.low)) (sym key_is)
+    (lows_step v.rules g.met.V.Scale.laws v.rules.reads (cut_index s) read i words new c.if-key-at.low
     (omega (arith, c.requires.room, c.loop-at.auto.words))
     (key_low test (sizes_in s) i inside)
     (key_twice test (sizes_in s) i inside)
@@ -47,4 +47,4 @@ returns g c =
     let s = c.args.places.now in
     let read = λ (j : ℕ). v.rules.reads (get_or c.args.table.now j 0) in
     let end : c.loop-at.at ≡ length c.args.table.now = omega (arith, c.loop-at-test.false, c.loop-at.auto.at-end) in
-    subst (λ (n : ℕ). Lows v.rules g.met.V.Scale.laws v.rules.reads (cut_index_lem s) read n c.loop-at.words) end c.loop-at.invariant
+    subst (λ (n : ℕ). Lows v.rules g.met.V.Scale.laws v.rules.reads (cut_index s) read n c.loop-at.words) end c.loop-at.invariant

@@ -8,7 +8,7 @@ use Rattle.messages.specs.declared.places.Places.{Places}
 use Rattle.messages.specs.Combinations.{combination}
 use Rattle.messages.specs.Counts.{counts}
 use Rattle.messages.specs.Holding.{StandsFor}
-use Rattle.messages.specs.Places.{place_in, sizes_in, cut_index_lem}
+use Rattle.messages.specs.Places.{place_in, sizes_in, cut_index}
 use Rattle.messages.specs.Sent.{variable_cell, function_cell, choice_cell}
 use Rattle.messages.specs.Upward.{gives, best_at, Best, Candidate, BelowHeld, Supplied, With, Running, BestEntries, OnlyAt}
 use Rattle.messages.proofs.Joining.{join_stands}
@@ -27,7 +27,7 @@ module _ {V E : Type 0} (R : Rules E) (L : Plain R) (means : V → E) (within : 
   Bests = BestEntries R means within s f words cuts before
 
   -- no candidate stands at i
-  skipped : (cut_index_lem s i ≡ i → ⊥) → Bests i seen cells choices → Bests (i + 1) seen cells choices
+  skipped : (cut_index s i ≡ i → ⊥) → Bests i seen cells choices → Bests (i + 1) seen cells choices
   skipped other so_far q n most given x h d =
       passed R L means within (Candidate s x) (gives R s cuts q) (most x) i (best_at seen cells choices f x d) (so_far q n most given x h d) (λ (k : Candidate s x i). other k.0)
 
@@ -70,7 +70,7 @@ loop-at-preserved g c =
     let inv = c.loop-at.invariant in
     elim c.if-cut_index_of-at.branch [
       | then-cut_index_of-at w ↦
-          let own : cut_index_lem s i ≡ i = sym c.cut_index_of.ensures.value ∙ w.if-cut_index_of-at.true in
+          let own : cut_index s i ≡ i = sym c.cut_index_of.ensures.value ∙ w.if-cut_index_of-at.true in
           let xs = w.combination-combination.result in
           let ys = combination (sizes_in s) i in
           let inside : i < product (sizes_in s) = omega (arith, c.requires.words, c.loop-at-test.true) in
@@ -119,7 +119,7 @@ loop-at-preserved g c =
             ap (λ b. b.cells.ghost_name) w.choices-is ∙ told.lent.1 ∙ inv.9,
           )
       | else-cut_index_of-at w ↦
-          let other : cut_index_lem s i ≡ i → ⊥ = λ e. w.if-cut_index_of-at.false (c.cut_index_of.ensures.value ∙ e) in
+          let other : cut_index s i ≡ i → ⊥ = λ e. w.if-cut_index_of-at.false (c.cut_index_of.ensures.value ∙ e) in
           let cells = c.loop-at.values.cells.now in
           let choices = c.loop-at.choices.cells.now in
           let bests = skipped v.rules laws v.means v.within wider s f words cuts before i c.loop-at.seen cells cells choices choices other inv.1 in
