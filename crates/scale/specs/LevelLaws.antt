@@ -1,6 +1,6 @@
 -- The laws of the two scales over the numbers from 0 to 1000. Assumes nothing.
-use Rattle.std.specs.Prelude.{◌≡◌, ℕ, ◌≤◌, min, true, T, ◌⊎◌, nat_le}
-use Rattle.std.proofs.Common.{sym, ap, ◌∙◌, subst, inl, inr, ⊎_elim, arith, leb→le, leb-true, leb-false, le-leb}
+use Rattle.std.specs.Prelude.{◌≡◌, ℕ, ◌≤◌, true, T, ◌⊎◌, nat_le}
+use Rattle.std.proofs.Common.{ap, subst, inl, inr, ⊎_elim, arith, leb→le, leb-true, leb-false, le-leb}
 use Rattle.std.proofs.lemmas.Bool.{cases_Bool}
 use Rattle.std.proofs.Math.Dec.{T_prop}
 use Rattle.scale.specs.Laws.{PlainLaws, GapLaws}
@@ -39,27 +39,13 @@ capped_laws = record {
   mono = λ a b c h. le-leb _ _ (omega (arith, leb-true b.size a.size h));
 }
 
--- nothing of a size up to 1000 is cut
-uncut : (n : ℕ) → n ≤ 1000 → min n 1000 ≡ n
-uncut n h = omega arith
-
-lower : (a b : Level) → (level_min a b).size ≡ min a.size b.size
-lower a b = uncut (min a.size b.size) (omega (arith, at_most a))
-
-three : (x y z : ℕ) → min (min x y) z ≡ min x (min y z)
-three x y z = omega arith
-
-min_assoc : (a b c : Level) → level_min (level_min a b) c ≡ level_min a (level_min b c)
-min_assoc a b c =
-    same_level _ _ (lower (level_min a b) c ∙ ap (λ n. min n c.size) (lower a b) ∙ three a.size b.size c.size ∙ ap (min a.size) (sym (lower b c)) ∙ sym (lower a (level_min b c)))
-
 pub weakest_laws : PlainLaws level_leq level_min (level 1000)
 weakest_laws = record {
   total = leq_total;
   trans = leq_trans;
   antisym = leq_antisym;
   comm = λ a b. same_level _ _ (omega arith);
-  assoc = min_assoc;
+  assoc = λ a b c. same_level _ _ (omega arith);
   unit = λ a. same_level _ _ (omega (arith, at_most a));
   mono = λ a b c h. le-leb _ _ (omega (arith, leb-true b.size a.size h));
 }

@@ -1,17 +1,14 @@
 -- The laws of the sum of whole numbers, and of two of them. Assumes nothing.
-use Rattle.std.specs.Prelude.{◌≡◌, true, false, ℤ, pos, ◌+ℤ◌, ◌-ℤ◌}
+use Rattle.std.specs.Prelude.{◌≡◌, true, false, ℤ, pos}
 use Rattle.std.proofs.Common.{arith}
 use Rattle.std.proofs.lemmas.Int.{ints}
 use Rattle.scale.specs.Laws.{PlainLaws, GapLaws}
 use Rattle.scale.specs.Ranks.{rank, rank_leq, rank_add, rank_gap}
 use Rattle.scale.specs.LexLaws.{lex_laws, leq_refl}
-use Rattle.scale.specs.Whole.{whole_laws, whole_strict}
+use Rattle.scale.specs.Whole.{back, whole_laws, whole_strict}
 
 pub rank_laws : PlainLaws rank_leq rank_add (rank (pos 0) (pos 0))
 rank_laws = lex_laws whole_laws whole_strict whole_laws
-
-back : (a b : ℤ) → b +ℤ (a -ℤ b) ≡ a
-back a b = omega (arith, ints)
 
 rank_reaches : (a b : ℤ × ℤ) → rank_leq b a ≡ true → rank_leq a (rank_add b (rank_gap a b)) ≡ true
 rank_reaches a b h = rw h (rw (back a.0 b.0, back a.1 b.1) (leq_refl rank_laws a))

@@ -1,5 +1,5 @@
 -- The machine's sums and differences of values that are few entries joined. Assumes nothing.
-use Rattle.std.specs.Prelude.{◌≡◌, ℕ, ◌+◌, ◌≤◌, ℤ, pos, negsuc, ◌+ℤ◌, ◌-ℤ◌, ◌≤ℤ◌}
+use Rattle.std.specs.Prelude.{◌≡◌, ℕ, ◌+◌, ◌≤◌, ℤ, ◌+ℤ◌, ◌-ℤ◌}
 use Rattle.std.proofs.Common.{◌∙◌, arith}
 use Rattle.std.proofs.lemmas.Int.{ints}
 use Rattle.std.specs.Int.{saturate_to_bits}
@@ -9,31 +9,14 @@ use Rattle.scale.specs.Whole.{saturated_is}
 pub wider : (p q : ℕ) (z : ℤ) → p ≤ q → Span p z → Span q z
 wider p q z h s = record { low = omega (arith, ints, s.low); high = omega (arith, ints, s.high) }
 
-module _ (p q : ℕ) (a b r : ℤ) (sa : Span p a) (sb : Span q b) (h : p + q ≤ 2147483647) where
-  sum_low : negsuc 2147483647 ≤ℤ (a +ℤ b)
-  sum_low = omega (arith, ints, sa.low, sb.low)
+uncut : (most : ℕ) (z r : ℤ) → most ≤ 2147483647 → Span most z → r ≡ saturate_to_bits 31 z → (r ≡ z) × Span most r
+uncut most z r fits s e =
+    let same : r ≡ z = e ∙ saturated_is z (omega (arith, ints, s.low)) (omega (arith, ints, s.high)) in
+    (same, rw same s)
 
-  sum_high : (a +ℤ b) ≤ℤ pos 2147483647
-  sum_high = omega (arith, ints, sa.high, sb.high)
+module _ (p q most : ℕ) (a b r : ℤ) (sa : Span p a) (sb : Span q b) (few : p + q ≤ most) (fits : most ≤ 2147483647) where
+  pub summed : r ≡ saturate_to_bits 31 (a +ℤ b) → (r ≡ a +ℤ b) × Span most r
+  summed = uncut most _ r fits (record { low = omega (arith, ints, sa.low, sb.low); high = omega (arith, ints, sa.high, sb.high) })
 
-  gap_low : negsuc 2147483647 ≤ℤ (a -ℤ b)
-  gap_low = omega (arith, ints, sa.low, sb.high)
-
-  gap_high : (a -ℤ b) ≤ℤ pos 2147483647
-  gap_high = omega (arith, ints, sa.high, sb.low)
-
-  pub sum_is : r ≡ saturate_to_bits 31 (a +ℤ b) → r ≡ a +ℤ b
-  sum_is e = e ∙ saturated_is (a +ℤ b) sum_low sum_high
-
-  pub sum_spans : r ≡ saturate_to_bits 31 (a +ℤ b) → Span (p + q) r
-  sum_spans e =
-      let s : r ≡ a +ℤ b = sum_is e in
-      record { low = omega (arith, ints, sa.low, sb.low, s); high = omega (arith, ints, sa.high, sb.high, s) }
-
-  pub gap_is : r ≡ saturate_to_bits 31 (a -ℤ b) → r ≡ a -ℤ b
-  gap_is e = e ∙ saturated_is (a -ℤ b) gap_low gap_high
-
-  pub gap_spans : r ≡ saturate_to_bits 31 (a -ℤ b) → Span (p + q) r
-  gap_spans e =
-      let s : r ≡ a -ℤ b = gap_is e in
-      record { low = omega (arith, ints, sa.low, sb.high, s); high = omega (arith, ints, sa.high, sb.low, s) }
+  pub gapped : r ≡ saturate_to_bits 31 (a -ℤ b) → (r ≡ a -ℤ b) × Span most r
+  gapped = uncut most _ r fits (record { low = omega (arith, ints, sa.low, sb.high); high = omega (arith, ints, sa.high, sb.low) })

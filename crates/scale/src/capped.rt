@@ -3,9 +3,7 @@ ghost use Rattle.scale.specs.Levels.{Level, level, capped};
 ghost use Rattle.scale.specs.LevelLaws.{capped_laws, capped_gaps};
 ghost use Rattle.std.proofs.Common.{rules};
 
-use crate::{Measuring, Scale, ScaleFault};
-
-const TOP: u32 = 1000;
+use crate::{Measuring, Scale, ScaleFault, levels};
 
 #[derive(Clone, Copy)]
 pub struct Capped {
@@ -38,34 +36,28 @@ impl Scale for Capped {
     }
 
     fn test(word: u32) -> Result<(), ScaleFault> {
-        if word <= TOP {
-            Ok(())
-        } else {
-            Err(ScaleFault::NoEntry)
-        }
+        levels::test(word)
     }
 
     fn value_of(word: u32) -> Capped {
-        if word <= TOP {
-            Capped { value: word }
-        } else {
-            Capped::neutral()
+        match levels::test(word) {
+            Ok(()) => Capped { value: word },
+            Err(_) => Capped::neutral(),
         }
     }
 
     fn at_least(self, other: Capped) -> bool {
-        other.value.min(TOP) <= self.value.min(TOP)
+        levels::at_least(self.value, other.value)
     }
 
     fn join(self, other: Capped) -> Capped {
-        let sum = self.value.min(TOP) + other.value.min(TOP);
         Capped {
-            value: sum.min(TOP),
+            value: levels::cut(levels::cut(self.value) + levels::cut(other.value)),
         }
     }
 
     fn show(self) -> (i32, i32) {
-        (self.value.min(TOP) as i32, 0)
+        levels::show(self.value)
     }
 }
 
@@ -74,7 +66,7 @@ impl Measuring for Capped {
 
     fn gap(self, other: Capped) -> Capped {
         Capped {
-            value: self.value.min(TOP).saturating_sub(other.value.min(TOP)),
+            value: levels::cut(self.value).saturating_sub(levels::cut(other.value)),
         }
     }
 }

@@ -8,15 +8,13 @@ pub enum ScaleFault {
     NoEntry,
 }
 
-const NO_ENTRY: u16 = 11;
-
 impl ScaleFault {
     // The number that a user reads.
     pub fn number(self) -> u16
         ensures { result ≡ scale_number self }
     {
         match self {
-            ScaleFault::NoEntry => NO_ENTRY,
+            ScaleFault::NoEntry => 11,
         }
     }
 }

@@ -7,12 +7,15 @@ ghost use Rattle.scale.specs.Rules.{Rules};
 
 mod capped;
 mod fault;
+mod levels;
+mod order;
 mod points;
 mod ranked;
 mod weakest;
 
 pub use capped::Capped;
 pub use fault::ScaleFault;
+pub use order::{higher, lower};
 pub use points::Points;
 pub use ranked::Ranked;
 pub use weakest::Weakest;
@@ -52,7 +55,7 @@ pub trait Scale: Copy {
         ensures means { means result ≡ rules.reads word }
         ensures within { within 1 result };
 
-    // Whether this value is at least as high as the other.
+    // Whether this value is at least as high as the other. (Not `Ord`: a derive would tell apart what stands for one value, as 1,000 and 1,001 do for a level, and by hand each scale would need four impls.)
     fn at_least(self, other: Self) -> bool
         ensures { result ≡ rules.leq (means other) (means self) };
 
@@ -80,8 +83,6 @@ pub trait Measuring: Scale {
 
 // The gap's laws, for all values of a measuring scale: the lower value joined with the gap reaches the higher, no gap is below neutral, and
 // where the first value is lower the gap is neutral.
-pub fn gap_laws<V: Measuring>() -> u8
+pub fn gap_laws<V: Measuring>()
     ensures { Gaps V.Scale.rules }
-{
-    0
-}
+{}

@@ -1,7 +1,7 @@
 // Points: whole numbers, which joining adds.
-ghost use Rattle.std.specs.Prelude.{◌≡◌, ◌*◌, ℤ, ◌+ℤ◌, ◌-ℤ◌, refl};
+ghost use Rattle.std.specs.Prelude.{◌≡◌, ◌*◌, ℤ, ◌+ℤ◌, ◌-ℤ◌, refl, is_ok, IfOk};
 ghost use Rattle.std.specs.Int.{saturate_to_bits};
-ghost use Rattle.scale.specs.Points.{points, Span};
+ghost use Rattle.scale.specs.Points.{points, points_entry, points_reads, Span};
 ghost use Rattle.scale.specs.Whole.{whole_laws};
 ghost use Rattle.std.proofs.Common.{arith, rules};
 ghost use Rattle.scale.specs.Sums.{wider};
@@ -13,6 +13,20 @@ pub struct Points {
     pub value: i32,
 }
 
+// The points that a word reads as; declines a word that is no entry.
+fn entry(word: u32) -> Result<Points, ScaleFault>
+    ensures entry { is_ok result ≡ points_entry word }
+    ensures value { IfOk result (λ p. p.value ≡ points_reads word) }
+{
+    let value = word.cast_signed();
+    if (-1_000_000..=1_000_000).contains(&value) {
+        Ok(Points { value })
+    } else {
+        Err(ScaleFault::NoEntry)
+    }
+}
+
+// The machine's sum and difference, cut where they pass its range; few enough entries never do.
 fn plus(a: Points, b: Points) -> Points
     ensures { result.value ≡ saturate_to_bits 31 (a.value +ℤ b.value) }
 {
@@ -55,21 +69,12 @@ impl Scale for Points {
     }
 
     fn test(word: u32) -> Result<(), ScaleFault> {
-        let value = word.cast_signed();
-        if -1_000_000 <= value && value <= 1_000_000 {
-            Ok(())
-        } else {
-            Err(ScaleFault::NoEntry)
-        }
+        entry(word)?;
+        Ok(())
     }
 
     fn value_of(word: u32) -> Points {
-        let value = word.cast_signed();
-        if -1_000_000 <= value && value <= 1_000_000 {
-            Points { value }
-        } else {
-            Points::neutral()
-        }
+        entry(word).unwrap_or(Points::neutral())
     }
 
     fn at_least(self, other: Points) -> bool {

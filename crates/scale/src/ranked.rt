@@ -1,9 +1,9 @@
 // Ranked: two numbers, of which the first counts first; joining adds both.
-ghost use Rattle.std.specs.Prelude.{◌≡◌, ◌*◌, ◌/◌, ◌%◌, ℤ, ◌+ℤ◌, ◌-ℤ◌, refl};
+ghost use Rattle.std.specs.Prelude.{◌≡◌, ◌*◌, ◌/◌, ◌%◌, ℤ, ◌+ℤ◌, ◌-ℤ◌, refl, is_ok, IfOk};
 ghost use Rattle.std.specs.Int.{saturate_to_bits, w16};
 ghost use Rattle.std.proofs.Common.{to_z, arith};
 ghost use Rattle.scale.specs.Points.{Span};
-ghost use Rattle.scale.specs.Ranks.{rank, ranked};
+ghost use Rattle.scale.specs.Ranks.{rank, rank_entry, rank_reads, ranked};
 ghost use Rattle.scale.specs.RankLaws.{rank_laws, rank_gaps};
 ghost use Rattle.scale.specs.Sums.{wider};
 
@@ -15,18 +15,34 @@ pub struct Ranked {
     pub second: i32,
 }
 
-fn low(word: u32) -> i16
-    ensures { result ≡ to_z w16 (word % 65536) }
+// The lower and the upper half of a word.
+fn halves(word: u32) -> (i16, i16)
+    ensures { result ≡ (to_z w16 (word % 65536), to_z w16 (word / 65536)) }
 {
-    ((word % 65536) as u16).cast_signed()
+    (
+        ((word % 65536) as u16).cast_signed(),
+        ((word / 65536) as u16).cast_signed(),
+    )
 }
 
-fn high(word: u32) -> i16
-    ensures { result ≡ to_z w16 (word / 65536) }
+// The two numbers that a word reads as; declines a word that is no entry.
+fn entry(word: u32) -> Result<Ranked, ScaleFault>
+    ensures entry { is_ok result ≡ rank_entry word }
+    ensures value { IfOk result (λ p. rank p.first p.second ≡ rank_reads word) }
 {
-    ((word / 65536) as u16).cast_signed()
+    let (first, second) = halves(word);
+    let part = -1000..=1000;
+    if part.contains(&first) && part.contains(&second) {
+        Ok(Ranked {
+            first: i32::from(first),
+            second: i32::from(second),
+        })
+    } else {
+        Err(ScaleFault::NoEntry)
+    }
 }
 
+// The machine's sum and difference, cut where they pass its range; few enough entries never do.
 fn plus(a: Ranked, b: Ranked) -> Ranked
     ensures first { result.first ≡ saturate_to_bits 31 (a.first +ℤ b.first) }
     ensures second { result.second ≡ saturate_to_bits 31 (a.second +ℤ b.second) }
@@ -76,36 +92,16 @@ impl Scale for Ranked {
     }
 
     fn test(word: u32) -> Result<(), ScaleFault> {
-        let first = low(word);
-        let second = high(word);
-        if -1000 <= first && first <= 1000 && -1000 <= second && second <= 1000 {
-            Ok(())
-        } else {
-            Err(ScaleFault::NoEntry)
-        }
+        entry(word)?;
+        Ok(())
     }
 
     fn value_of(word: u32) -> Ranked {
-        let first = low(word);
-        let second = high(word);
-        if -1000 <= first && first <= 1000 && -1000 <= second && second <= 1000 {
-            Ranked {
-                first: first as i32,
-                second: second as i32,
-            }
-        } else {
-            Ranked::neutral()
-        }
+        entry(word).unwrap_or(Ranked::neutral())
     }
 
     fn at_least(self, other: Ranked) -> bool {
-        if other.first < self.first {
-            true
-        } else if self.first < other.first {
-            false
-        } else {
-            other.second <= self.second
-        }
+        (other.first, other.second) <= (self.first, self.second)
     }
 
     fn join(self, other: Ranked) -> Ranked {

@@ -4,9 +4,8 @@ ghost use Rattle.scale.specs.LevelLaws.{weakest_laws, same_level};
 ghost use Rattle.std.specs.Prelude.{refl};
 ghost use Rattle.std.proofs.Common.{arith, leb-false};
 
-use crate::{Scale, ScaleFault};
-
-const TOP: u32 = 1000;
+use crate::levels::TOP;
+use crate::{Scale, ScaleFault, levels};
 
 #[derive(Clone, Copy)]
 pub struct Weakest {
@@ -39,11 +38,7 @@ impl Scale for Weakest {
     }
 
     fn test(word: u32) -> Result<(), ScaleFault> {
-        if word <= TOP {
-            Ok(())
-        } else {
-            Err(ScaleFault::NoEntry)
-        }
+        levels::test(word)
     }
 
     fn value_of(word: u32) -> Weakest {
@@ -51,16 +46,16 @@ impl Scale for Weakest {
     }
 
     fn at_least(self, other: Weakest) -> bool {
-        other.value.min(TOP) <= self.value.min(TOP)
+        levels::at_least(self.value, other.value)
     }
 
     fn join(self, other: Weakest) -> Weakest {
         Weakest {
-            value: self.value.min(TOP).min(other.value.min(TOP)),
+            value: levels::cut(self.value.min(other.value)),
         }
     }
 
     fn show(self) -> (i32, i32) {
-        (self.value.min(TOP) as i32, 0)
+        levels::show(self.value)
     }
 }
