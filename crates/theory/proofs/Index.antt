@@ -30,7 +30,7 @@ index_one (s ∷ sizes) (x ∷ xs) (y ∷ ys) w v e =
     (sym (digits_div x low) ∙ ap (λ (n : ℕ). n / k) e ∙ digits_div y low')
     (index_one sizes xs ys w.1 v.1 (sym (digits_mod x low) ∙ ap (λ (n : ℕ). n % k) e ∙ digits_mod y low'))
 
-positive : (s k i : ℕ) → i < s * k → 0 < k
+pub positive : (s k i : ℕ) → i < s * k → 0 < k
 positive s zero i h = omega (arith, mul-zero s)
 positive s (suc k) i h = omega arith
 

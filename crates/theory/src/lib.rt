@@ -4,84 +4,60 @@
 ghost use Rattle.theory.specs.Theorems.{CutScoreBelow, EntryCovered, TreeValueBounds, TreeValueReached, SomePlanPicked, CeilingStands, UpperValueBounds, UpperValueCovered, MessagesUnique, StraightExact, PlaceByPlace, LinkByLink, AllProvided, PlansArePositions, GraphWhole, ForestHangs};
 ghost use Rattle.theory.specs.GraphTheorems.{Keeps_exists, Kept_clears, Kept_joins, Lightest, Keeps_unique, Parts_known, Left_out_count};
 
-pub fn cut_score_below<E>() -> u8
+pub fn cut_score_below<E>()
     ensures { CutScoreBelow E }
-{
-    0
-}
+{}
 
-pub fn entry_covered<E>() -> u8
+pub fn entry_covered<E>()
     ensures { EntryCovered E }
-{
-    0
-}
+{}
 
-pub fn tree_value_bounds<E>() -> u8
+pub fn tree_value_bounds<E>()
     ensures bounds { TreeValueBounds E }
     ensures reached { TreeValueReached E }
     ensures picked { SomePlanPicked E }
-{
-    0
-}
+{}
 
-pub fn ceiling_stands<E>() -> u8
+pub fn ceiling_stands<E>()
     ensures { CeilingStands E }
-{
-    0
-}
+{}
 
-pub fn upper_value_bounds<E>() -> u8
+pub fn upper_value_bounds<E>()
     ensures bounds { UpperValueBounds E }
     ensures covered { UpperValueCovered E }
-{
-    0
-}
+{}
 
-pub fn messages_unique<E>() -> u8
+pub fn messages_unique<E>()
     ensures { MessagesUnique E }
-{
-    0
-}
+{}
 
-pub fn straight_exact<E>() -> u8
+pub fn straight_exact<E>()
     ensures { StraightExact E }
-{
-    0
-}
+{}
 
-pub fn place_by_place<E>() -> u8
+pub fn place_by_place<E>()
     ensures { PlaceByPlace E }
-{
-    0
-}
+{}
 
-pub fn link_by_link<E>() -> u8
+pub fn link_by_link<E>()
     ensures { LinkByLink E }
-{
-    0
-}
+{}
 
-pub fn all_provided<E>() -> u8
+pub fn all_provided<E>()
     ensures { AllProvided E }
-{
-    0
-}
+{}
 
-pub fn forest_hangs() -> u8
+pub fn forest_hangs()
     ensures { ForestHangs }
-{
-    0
-}
+{}
 
-pub fn plans_are_positions() -> u8
+pub fn plans_are_positions()
     ensures positions { PlansArePositions }
     ensures whole { GraphWhole }
-{
-    0
-}
+{}
 
 // The links left out are a lightest set that clears the graph of its cycles.
-pub fn kept_links<E>() -> u8
+pub fn kept_links<E>()
     ensures exists { Keeps_exists E }
     ensures clears { Kept_clears E }
     ensures spans { Kept_joins E }
@@ -89,6 +65,4 @@ pub fn kept_links<E>() -> u8
     ensures unique { Keeps_unique E }
     ensures parts { Parts_known }
     ensures counted { Left_out_count E }
-{
-    0
-}
+{}
