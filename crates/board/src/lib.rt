@@ -3,6 +3,9 @@
 
 ghost use Rattle.std.specs.Prelude.{◌≡◌, ℕ, ◌+◌, ◌*◌, ◌/◌, ◌<◌, ◌≤◌, length, take, drop, replicate, slice_index_or, slice_set};
 
+// How many cells a row has.
+pub const ROW: usize = 16;
+
 #[derive(Drop)]
 pub struct Board<'a, T> {
     cells: &'a mut [T],
@@ -11,13 +14,15 @@ pub struct Board<'a, T> {
 }
 
 impl<'a, T: Copy> Board<'a, T> {
+    ghost use Rattle.board.specs.SameLent.{SameLent};
+
     // A board over the cells that are lent, with as many rows as they fill.
     pub fn over(cells: &'a mut [T]) -> Board<'a, T>
         ensures same { result.cells.now ≡ cells.old }
         ensures rows { result.rows ≡ length cells.old / 16 }
         ensures lent { result.cells.ghost_name ≡ cells.entry.ghost_name }
     {
-        let rows = cells.len() / 16;
+        let rows = cells.len() / ROW;
         Board { cells, rows }
     }
 
@@ -28,7 +33,7 @@ impl<'a, T: Copy> Board<'a, T> {
         ensures { (d : T) → result ≡ slice_index_or self.now.cells.now (16 * row + cell) d }
     {
         let cells = &*self.cells;
-        cells[16 * row + cell]
+        cells[ROW * row + cell]
     }
 
     // The cells of so many rows, from the row `first` on.
@@ -37,7 +42,7 @@ impl<'a, T: Copy> Board<'a, T> {
         ensures { result.now ≡ take (16 * rows) (drop (16 * first) self.now.cells.now) }
     {
         let cells = &*self.cells;
-        &cells[16 * first..16 * (first + rows)]
+        &cells[ROW * first..ROW * (first + rows)]
     }
 
     // Writes that cell, and no other.
@@ -45,27 +50,23 @@ impl<'a, T: Copy> Board<'a, T> {
         requires row { row < self.old.rows }
         requires cell { cell < 16 }
         ensures after { self.new.cells.now ≡ slice_set self.old.cells.now (16 * row + cell) value }
-        ensures rows { self.new.rows ≡ self.old.rows }
-        ensures lent { self.new.cells.ghost_name ≡ self.old.cells.ghost_name }
+        ensures same { SameLent self.old self.new }
     {
-        self.cells[16 * row + cell] = value;
+        self.cells[ROW * row + cell] = value;
     }
 
     fn fill(&mut self, value: T)
         ensures after { self.new.cells.now ≡ replicate (length self.old.cells.now) value }
-        ensures rows { self.new.rows ≡ self.old.rows }
-        ensures lent { self.new.cells.ghost_name ≡ self.old.cells.ghost_name }
+        ensures same { SameLent self.old self.new }
     {
-        for k in 0..self.cells.len() {
-            self.cells[k] = value;
-        }
+        // Not `fill`, which asks that cloning the value cannot fail: of a T that is only `Copy` nothing says so.
+        self.cells.fill_with(|| value);
     }
 
     // Writes the value into each cell.
     pub fn clear(&mut self, value: T)
         ensures after { self.new.cells.now ≡ replicate (length self.old.cells.now) value }
-        ensures rows { self.new.rows ≡ self.old.rows }
-        ensures lent { self.new.cells.ghost_name ≡ self.old.cells.ghost_name }
+        ensures same { SameLent self.old self.new }
     {
         self.fill(value);
     }

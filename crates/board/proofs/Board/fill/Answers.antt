@@ -1,24 +1,16 @@
-use Rattle.std.proofs.Common.{◌≡◌, ◌<◌, [], ◌∷◌, ◌++◌, length, replicate, sym, ap, ◌∙◌, arith}
-use Rattle.std.proofs.lemmas.List.{length-set, replicate_more, take_all, take_more_set}
+use Rattle.std.proofs.Common.{rules, ◌≡◌, List, [], ◌∷◌, length, replicate, ap, ap₂, ◌∙◌, subst, refl}
+use Rattle.std.specs.List.{FoldsTo}
 use Rattle.board.proofs.Board.fill.Goals as goal
 
-pub loop-k-preserved : goal.loop-k-preserved
-loop-k-preserved g c =
-    let cells = c.loop-k.self.cells.now in
-    let k = c.loop-k.k in
-    let v = c.args.value in
-    let inv = c.loop-k.invariant in
-    let room : k < length cells = omega (arith, inv.1) in
-    (take_more_set cells k v room ∙ ap (λ front. front ++ v ∷ []) inv.0 ∙ replicate_more k v, length-set cells k v ∙ inv.1, inv.2, inv.3)
+-- Calls that each return a, and leave the state as it was, return a list of a.
+all_same : {P A : Type 0} (R : P → A → P → Type 0) (a : A) (p : P) → ((x : A) (q : P) → R p x q → (x ≡ a) × (q ≡ p)) →
+    (xs : List A) (last : P) → FoldsTo R p xs last → xs ≡ replicate (length xs) a
+all_same R a p each [] last folds = refl
+all_same R a p each (x ∷ xs) last (q, step, folds) =
+    let (here, still) = each x q step in
+    ap₂ ◌∷◌ here (all_same R a p each xs last (subst (λ s. FoldsTo R s xs last) still folds))
 
-pub returns : goal.returns
-returns g c =
-    let cells = c.loop-k.self.cells.now in
-    let k = c.loop-k.k in
-    let inv = c.loop-k.invariant in
-    let all : k ≡ length c.args.self.now.cells.now = omega arith in
-    record {
-      after = sym (take_all k cells (omega (arith, inv.1))) ∙ inv.0 ∙ ap (λ n. replicate n c.args.value) all;
-      rows = inv.2;
-      lent = inv.3;
-    }
+pub returns-clause-after : goal.returns-clause-after
+returns-clause-after g c =
+    let (last, ran) = c.fill_with.ensures.ran in
+    all_same _ c.args.value _ (λ x q step. search rules) c.fill_with.new.self last ran ∙ ap (λ n. replicate n c.args.value) c.fill_with.ensures.len
