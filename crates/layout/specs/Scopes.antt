@@ -1,11 +1,12 @@
 -- A scope as a list of variables, and where tables begin. Assumes nothing.
 use Rattle.std.specs.Prelude.{◌≡◌, ℕ, ◌<◌, ◌≤◌, List, map, length, take, sum_by, ◌≢◌, slice_index}
 use Rattle.theory.specs.Sizes.{combinations}
+use Rattle.short_list.specs.View.{items_of}
 use Rattle.layout.specs.declared.scope.Scope.{Scope}
 
 -- the variables of a scope, by place
 abbrev pub listed : Scope → List ℕ
-listed s = take s.size s.variables
+listed s = items_of s.variables
 
 -- no variable stands twice
 abbrev pub NoneTwice : List ℕ → Type 0

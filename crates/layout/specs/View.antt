@@ -1,15 +1,16 @@
 -- A layout as its user sees it. Assumes nothing.
 use Rattle.std.specs.Prelude.{ℕ, List, [], map, take, sum_by, slice_index_or}
 use Rattle.theory.specs.Sizes.{combinations}
+use Rattle.short_list.specs.View.{items_of}
 use Rattle.layout.specs.declared.layout.Layout.{Layout}
 use Rattle.layout.specs.Scopes.{listed}
 
 -- the size of each variable's domain, and the scope of each function, in the order of their numbers
 abbrev pub domains_of : Layout → List ℕ
-domains_of l = take l.variables l.domains
+domains_of l = items_of l.domains
 
 abbrev pub scopes_of : Layout → List (List ℕ)
-scopes_of l = map listed (take l.functions l.scopes)
+scopes_of l = map listed (items_of l.scopes)
 
 -- how many words its tables have together
 abbrev pub words_in : Layout → ℕ

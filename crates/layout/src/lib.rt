@@ -8,4 +8,4 @@ mod sizes;
 
 pub use fault::ProblemFault;
 pub use layout::Layout;
-pub use sizes::{MOST_FUNCTIONS, MOST_VARIABLES, MOST_WORDS};
+pub use sizes::{MOST_FUNCTIONS, MOST_IN_TABLE, MOST_PLACES, MOST_VARIABLES, MOST_WORDS};

@@ -1,21 +1,14 @@
 // The variables of a function, by place: at most four, and none twice.
-ghost use Rattle.std.specs.Prelude.{◌≡◌, ℕ, ◌<◌, ◌≤◌, length, ◌≢◌, slice_index};
+ghost use Rattle.std.specs.Prelude.{ℕ, ◌<◌, length, ◌≢◌, slice_index};
+ghost use Rattle.short_list.specs.View.{items_of};
+
+use crate::sizes::MOST_PLACES;
+use short_list::ShortList;
 
 mod packing;
 
 #[derive(Clone, Copy)]
 pub(crate) struct Scope {
-    size: u8,
-    variables: [u8; 4],
-    ghost places: { length variables ≡ 4 },
-    ghost few: { size ≤ 4 },
-    ghost distinct: { (p q : ℕ) → p < q → q < size → slice_index variables p ≢ slice_index variables q },
-}
-
-impl Scope {
-    // No variable.
-    pub(crate) const EMPTY: Scope = Scope {
-        size: 0,
-        variables: [0; 4],
-    };
+    variables: ShortList<u8, MOST_PLACES>,
+    ghost distinct: { (p q : ℕ) → p < q → q < length (items_of variables) → slice_index (items_of variables) p ≢ slice_index (items_of variables) q },
 }

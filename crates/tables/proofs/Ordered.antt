@@ -1,11 +1,11 @@
 -- The functions whose tables lie one after the other. Assumes nothing.
 use Rattle.std.proofs.Common.{◌≡◌, ℕ, zero, suc, ◌+◌, ◌-◌, ◌<◌, ◌≤◌, List, [], ◌∷◌, ◌++◌, map, length, get_or, take, drop, sum_by, sym, refl, ap, ◌∙◌, subst, arith, take-add}
-use Rattle.std.proofs.lemmas.List.{drop-drop, length-drop, length-take-le, get_or-take}
+use Rattle.std.proofs.lemmas.List.{drop-drop, length-drop, length-take-le}
 use Rattle.std.proofs.lemmas.List.Sums.{sum_by-cons, sum_by_more, sum_by-take-le}
 use Rattle.std.specs.List.{flat_map}
 use Rattle.theory.specs.Problem.{Function, words_in_order, functions, size, scope_of, at, function, product, index, position, Sound}
 use Rattle.theory.specs.Sizes.{Fits, combinations, all_words}
-use Rattle.layout.proofs.Shapes.{known_here, distinct_here}
+use Rattle.layout.proofs.Shapes.{few_variables, few_functions, distinct_here}
 use Rattle.layout.specs.Scopes.{sizes_of, values_of}
 use Rattle.layout.specs.View.{domains_of, scopes_of, scope_in, words_in, start_in}
 use Rattle.tables.specs.declared.tables.Tables.{Tables}
@@ -85,10 +85,6 @@ module _ (t : Tables) where
   at_scope : (Q : List ℕ → Type 0) (f : ℕ) → Q (get_or (scopes_of l) f []) → Q (scope_of (problem_of t) f)
   at_scope Q f = subst Q (sym (scope_is f))
 
-  size_is : (v : ℕ) → v < length (domains_of l) → size (problem_of t) v ≡ get_or l.domains v 0
-  unfolding size
-  size_is v h = let long = l.lengths in get_or-take l.variables l.domains v 0 (omega arith)
-
   pub enough : words_in l ≤ length t.words
   enough = let few = l.few in let room = t.room in omega arith
 
@@ -113,10 +109,10 @@ module _ (t : Tables) where
   sound : Sound (problem_of t)
   unfolding at size
   sound = record {
-    nonempty = λ v h. subst (λ (n : ℕ). 1 ≤ n) (sym (size_is v h)) (l.sizes v (let long = l.lengths in omega arith)).0;
+    nonempty = λ v h. (l.sizes v h).0;
     some_place = λ f h. at_scope (λ s. 1 ≤ length s) f (l.places f (there f h)).0;
     four_places = λ f h. at_scope (λ s. length s ≤ 4) f (l.places f (there f h)).1;
-    known = λ f p h. at_scope (λ s. p < length s → get_or s p 0 < length (domains_of l)) f (known_here l f (there f h) p);
+    known = λ f p h. at_scope (λ s. p < length s → get_or s p 0 < length (domains_of l)) f (l.known f (there f h) p);
     distinct = λ f p q h. at_scope (λ s. p < length s → q < length s → get_or s p 0 ≡ get_or s q 0 → p ≡ q) f (distinct_here l f p q (there f h));
     full = λ f h. at_scope (λ s. length (function (problem_of t) f).words ≡ product (map (size (problem_of t)) s)) f (table_is f (there f h));
   }
@@ -125,9 +121,9 @@ module _ (t : Tables) where
   unfolding size
   within_sizes = record {
     sound = sound;
-    few_variables = let long = l.lengths in let few = l.counts in omega arith;
-    small_domains = λ v h. subst (λ (n : ℕ). n ≤ 16) (sym (size_is v h)) (l.sizes v (let long = l.lengths in omega arith)).1;
-    few_functions = let long = l.lengths in let few = l.counts in let count = functions_length (domains_of l) (scopes_of l) t.words in omega arith;
+    few_variables = few_variables l;
+    small_domains = λ v h. (l.sizes v h).1;
+    few_functions = let few = few_functions l in let count = functions_length (domains_of l) (scopes_of l) t.words in omega arith;
     small_tables = λ f h. subst (λ (n : ℕ). n ≤ 1024) (sym (table_is f (there f h))) (l.small f (there f h));
     few_words = subst (λ (n : ℕ). n ≤ 4096) (sym (words_from (domains_of l) (scopes_of l) t.words enough)) l.few;
   }

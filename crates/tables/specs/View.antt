@@ -17,7 +17,3 @@ problem_of t = record { domains = domains_of t.layout; tables = functions_from (
 -- the words of the table of a function; none where there is no such function
 abbrev pub table_of : Tables → ℕ → List ℕ
 table_of t f = (function (problem_of t) f).words
-
--- a problem without variables and functions
-abbrev pub no_problem : Problem
-no_problem = record { domains = []; tables = [] }

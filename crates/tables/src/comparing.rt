@@ -10,15 +10,11 @@ use scale::Scale;
 fn same_entries<V: Scale>(ours: &[u32], theirs: &[u32]) -> bool
     ensures { Decides result (map V.Scale.rules.reads ours.now ≡ map V.Scale.rules.reads theirs.now) }
 {
-    if ours.len() != theirs.len() {
-        return false;
-    }
-    for at in 0..ours.len() {
-        if !same_entry::<V>(ours[at], theirs[at]) {
-            return false;
-        }
-    }
-    true
+    ours.len() == theirs.len()
+        && ours
+            .iter()
+            .zip(theirs)
+            .all(|(one, other)| same_entry::<V>(*one, *other))
 }
 
 // Values of which each is at least as high as the other are equal.

@@ -5,13 +5,14 @@ ghost use Rattle.layout.specs.View.{scopes_of};
 ghost use Rattle.tables.specs.View.{problem_of};
 
 use crate::tables::Tables;
+use joining::joined;
 use scale::Scale;
 
 // The word at an index of a table; 0 outside it.
 fn word_at(table: &[u32], index: usize) -> u32
     ensures { result ≡ slice_index table.now index }
 {
-    if index < table.len() { table[index] } else { 0 }
+    table.get(index).copied().unwrap_or(0)
 }
 
 // What a function gives at a plan.
@@ -29,11 +30,10 @@ fn joined_entries<V: Scale>(tables: &Tables, functions: usize, plan: [u8; 64]) -
     ensures exact { V.Scale.means result ≡ score V.Scale.rules (problem_of tables.now) (λ v. slice_index plan v) }
     ensures within { V.Scale.within 64 result }
 {
-    let mut joined = V::neutral();
-    for function in 0..functions {
-        joined = joined.join(entry_at::<V>(tables, function, plan));
-    }
-    joined
+    joined(
+        functions,
+        |function| Some(entry_at::<V>(tables, function, plan)),
+    )
 }
 
 // What the functions give at a plan, joined in number order; neutral if there are none. At a value outside its domain an index may lie outside

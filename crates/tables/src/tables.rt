@@ -1,7 +1,7 @@
 // What the tables of a problem are held in.
 ghost use Rattle.std.specs.Prelude.{◌≡◌, length};
 
-use layout::Layout;
+use layout::{Layout, MOST_WORDS};
 
 mod reading;
 
@@ -9,6 +9,6 @@ mod reading;
 pub struct Tables {
     pub layout: Layout,
     // The words of all tables, one table after the other in the order of the functions.
-    pub words: [u32; 4096],
+    pub words: [u32; MOST_WORDS],
     ghost room: { length words ≡ 4096 },
 }

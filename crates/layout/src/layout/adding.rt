@@ -12,29 +12,23 @@ use crate::scope::Scope;
 use crate::sizes::{
     MOST_FUNCTIONS, MOST_IN_TABLE, MOST_PLACES, MOST_VALUES, MOST_VARIABLES, MOST_WORDS,
 };
+use short_list::ShortList;
 
 // Whether some variable of the scope is not among the first `count`.
 fn has_unknown(scope: &[usize], count: usize) -> bool
     ensures { MatchBool result ((p : ℕ) × (p < length scope.now) × (count ≤ slice_index scope.now p)) (Known count scope.now) }
 {
-    for variable in scope {
-        if *variable >= count {
-            return true;
-        }
-    }
-    false
+    scope.iter().any(|variable| *variable >= count)
 }
 
 // Whether some variable stands twice in the scope.
 fn has_repeat(scope: &[usize]) -> bool
     ensures { MatchBool result ((p q : ℕ) × (p < q) × (q < length scope.now) × (slice_index scope.now p ≡ slice_index scope.now q)) (NoneTwice scope.now) }
 {
-    for place in 0..scope.len() {
-        if scope[0..place].contains(&scope[place]) {
-            return true;
-        }
-    }
-    false
+    scope
+        .iter()
+        .enumerate()
+        .any(|(place, variable)| scope[..place].contains(variable))
 }
 
 impl Layout {
@@ -44,11 +38,9 @@ impl Layout {
         ensures scopes { scopes_of result ≡ [] }
     {
         Layout {
-            variables: 0,
-            domains: [0; 64],
-            functions: 0,
-            scopes: [Scope::EMPTY; 64],
-            starts: [0; 65],
+            domains: ShortList::empty(0),
+            scopes: ShortList::empty(Scope::of(&[])),
+            starts: [0; MOST_FUNCTIONS + 1],
         }
     }
 
@@ -59,21 +51,20 @@ impl Layout {
         if size < 1 || size > MOST_VALUES {
             return Err(ProblemFault::DomainSize);
         }
-        if self.variables >= MOST_VARIABLES {
+        if self.domains.len() >= MOST_VARIABLES {
             return Err(ProblemFault::ManyVariables);
         }
         Ok(self.push_variable(size))
     }
 
     fn push_variable(mut self, size: usize) -> Layout
-        requires room { self.variables < 64 }
+        requires room { length (domains_of self) < 64 }
         requires some { 1 ≤ size }
         requires small { size ≤ 16 }
         ensures domains { domains_of result ≡ domains_of self ++ (size ∷ []) }
         ensures scopes { scopes_of result ≡ scopes_of self }
     {
-        self.domains[self.variables] = size as u8;
-        self.variables += 1;
+        self.domains.push(size as u8);
         self
     }
 
@@ -84,7 +75,7 @@ impl Layout {
         if scope.is_empty() || scope.len() > MOST_PLACES {
             return Err(ProblemFault::ScopeSize);
         }
-        if has_unknown(scope, self.variables) {
+        if has_unknown(scope, self.domains.len()) {
             return Err(ProblemFault::UnknownVariable);
         }
         if has_repeat(scope) {
@@ -100,11 +91,11 @@ impl Layout {
         ensures value { result ≡ combinations (domains_of self.now) scope.now }
         ensures bound { result ≤ 65536 }
     {
-        let mut count = 1;
-        for variable in scope {
-            count *= self.domains[*variable] as usize;
-        }
-        count
+        let domains = self.domains();
+        scope
+            .iter()
+            .map(|variable| domains[*variable] as usize)
+            .product()
     }
 
     // One more function, of this scope.
@@ -112,7 +103,7 @@ impl Layout {
         ensures { Answered problem_number (function_tests (domains_of self) (length (scopes_of self)) (words_in self) scope.now) (λ l. (domains_of l ≡ domains_of self) × (scopes_of l ≡ scopes_of self ++ (scope.now ∷ []))) result }
     {
         let places = self.scope_of(scope)?;
-        if self.functions >= MOST_FUNCTIONS {
+        if self.functions() >= MOST_FUNCTIONS {
             return Err(ProblemFault::ManyFunctions);
         }
         let table = self.combinations(scope);
@@ -123,8 +114,8 @@ impl Layout {
         Ok(self.push_function(places, end))
     }
 
-    fn push_function(mut self, scope: Scope, end: usize) -> Layout
-        requires room { self.functions < 64 }
+    fn push_function(self, scope: Scope, end: usize) -> Layout
+        requires room { length (scopes_of self) < 64 }
         requires some { 1 ≤ length (listed scope) }
         requires known { Known (length (domains_of self)) (listed scope) }
         requires small { combinations (domains_of self) (listed scope) ≤ 1024 }
@@ -133,9 +124,17 @@ impl Layout {
         ensures domains { domains_of result ≡ domains_of self }
         ensures scopes { scopes_of result ≡ scopes_of self ++ (listed scope ∷ []) }
     {
-        self.scopes[self.functions] = scope;
-        self.functions += 1;
-        self.starts[self.functions] = end;
-        self
+        let Layout {
+            domains,
+            mut scopes,
+            mut starts,
+        } = self;
+        scopes.push(scope);
+        starts[scopes.len()] = end;
+        Layout {
+            domains,
+            scopes,
+            starts,
+        }
     }
 }

@@ -1,5 +1,5 @@
 // What a layout tells.
-ghost use Rattle.std.specs.Prelude.{◌≡◌, ◌<◌, ◌≤◌, [], length, Decides, sum_by, MatchOption};
+ghost use Rattle.std.specs.Prelude.{◌≡◌, ◌<◌, ◌≤◌, [], map, length, Decides, sum_by, MatchOption};
 ghost use Rattle.theory.specs.Problem.{index};
 ghost use Rattle.theory.specs.Sizes.{combinations, Known};
 ghost use Rattle.layout.specs.Scopes.{listed, sizes_of, values_of, InDomains};
@@ -8,10 +8,23 @@ ghost use Rattle.layout.specs.View.{domains_of, scopes_of, words_in, scope_in, s
 use crate::layout::Layout;
 use crate::scope::Scope;
 
-fn same_bytes(ours: &[u8], theirs: &[u8]) -> bool
-    ensures { Decides result (ours.now ≡ theirs.now) }
+// Whether the scopes agree in order.
+fn same_scopes(ours: &[Scope], theirs: &[Scope]) -> bool
+    ensures { Decides result (map listed ours.now ≡ map listed theirs.now) }
 {
-    ours == theirs
+    ours.len() == theirs.len()
+        && ours
+            .iter()
+            .zip(theirs)
+            .all(|(one, other)| one.list() == other.list())
+}
+
+// How many places the scopes have together.
+fn places(scopes: &[Scope]) -> usize
+    requires { length scopes.now ≤ 64 }
+    ensures { result ≡ sum_by length (map listed scopes.now) }
+{
+    scopes.iter().map(|scope| scope.list().len()).sum()
 }
 
 impl Layout {
@@ -19,14 +32,14 @@ impl Layout {
     pub fn domains(&self) -> &[u8]
         ensures { result.now ≡ domains_of self.now }
     {
-        &self.domains[0..self.variables]
+        self.domains.as_slice()
     }
 
     // How many functions there are.
     pub fn functions(&self) -> usize
         ensures { result ≡ length (scopes_of self.now) }
     {
-        self.functions
+        self.scopes.len()
     }
 
     // The variables of a function by place; none where there is no such function.
@@ -41,78 +54,47 @@ impl Layout {
         }
     }
 
+    // The scope of a function; none where there is no such function.
     fn found(&self, function: usize) -> Option<&Scope>
         ensures { MatchOption result (scope_in self.now function ≡ []) (λ s. (listed s.now ≡ scope_in self.now function) × Known (length (domains_of self.now)) (listed s.now)) }
     {
-        if function < self.functions {
-            Some(&self.scopes[function])
-        } else {
-            None
-        }
+        self.scopes().get(function)
     }
 
     // How many words all tables have together.
     pub fn words(&self) -> usize
         ensures { result ≡ words_in self.now }
     {
-        self.starts[self.functions]
-    }
-
-    fn start_or_end(&self, function: usize) -> usize
-        ensures { result ≡ start_in self.now function }
-    {
-        if function < self.functions {
-            self.starts[function]
-        } else {
-            self.words()
-        }
+        self.starts[self.functions()]
     }
 
     // Where the table of a function begins among the words of all; past the last function, where its table ends.
     pub fn start(&self, function: usize) -> usize
         ensures { result ≡ start_in self.now function }
     {
-        self.start_or_end(function)
+        self.starts[function.min(self.functions())]
     }
 
     // How many links there are: one for each place of each function.
     pub fn links(&self) -> usize
         ensures { result ≡ sum_by length (scopes_of self.now) }
     {
-        self.places(self.functions())
+        places(self.scopes())
     }
 
-    // How many places the first functions have together.
-    fn places(&self, functions: usize) -> usize
-        requires { functions ≡ length (scopes_of self.now) }
-        ensures { result ≡ sum_by length (scopes_of self.now) }
+    // The scope of each function, in number order.
+    fn scopes(&self) -> &[Scope]
+        ensures scopes { map listed result.now ≡ scopes_of self.now }
+        ensures few { length result.now ≤ 64 }
     {
-        let mut count = 0;
-        for function in 0..functions {
-            count += self.scope(function).len();
-        }
-        count
+        self.scopes.as_slice()
     }
 
     // Whether domains and scopes agree in order.
     pub fn same(&self, other: &Layout) -> bool
         ensures { Decides result ((domains_of self.now ≡ domains_of other.now) × (scopes_of self.now ≡ scopes_of other.now)) }
     {
-        same_bytes(self.domains(), other.domains()) && self.same_scopes(other)
-    }
-
-    fn same_scopes(&self, other: &Layout) -> bool
-        ensures { Decides result (scopes_of self.now ≡ scopes_of other.now) }
-    {
-        if self.functions() != other.functions() {
-            return false;
-        }
-        for function in 0..self.functions() {
-            if !same_bytes(self.scope(function), other.scope(function)) {
-                return false;
-            }
-        }
-        true
+        self.domains() == other.domains() && same_scopes(self.scopes(), other.scopes())
     }
 
     // Where the entry of a function at a plan stands in its table, the last place varying fastest.
@@ -129,9 +111,10 @@ impl Layout {
         ensures value { result ≡ index (sizes_of (domains_of self.now) scope.now) (values_of plan scope.now) }
         ensures inside { InDomains (domains_of self.now) scope.now plan → result < combinations (domains_of self.now) scope.now }
     {
+        let domains = self.domains();
         let mut place = 0;
         for variable in scope {
-            let size = self.domains[*variable as usize] as usize;
+            let size = domains[*variable as usize] as usize;
             place = place * size + plan[*variable as usize] as usize;
         }
         place

@@ -4,6 +4,7 @@ ghost use Rattle.theory.specs.Sizes.{Known};
 ghost use Rattle.layout.specs.Scopes.{listed, NoneTwice};
 
 use crate::scope::Scope;
+use short_list::ShortList;
 
 impl Scope {
     // The scope of these variables.
@@ -13,20 +14,17 @@ impl Scope {
         requires distinct { NoneTwice list.now }
         ensures { listed result ≡ list.now }
     {
-        let mut variables = [0; 4];
-        for p in 0..list.len() {
-            variables[p] = list[p] as u8;
+        let mut variables = ShortList::empty(0);
+        for variable in list {
+            variables.push(*variable as u8);
         }
-        Scope {
-            size: list.len() as u8,
-            variables,
-        }
+        Scope { variables }
     }
 
     // The variables, by place.
     pub(crate) fn list(&self) -> &[u8]
         ensures { result.now ≡ listed self.now }
     {
-        &self.variables[0..self.size as usize]
+        self.variables.as_slice()
     }
 }

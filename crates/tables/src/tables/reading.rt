@@ -1,12 +1,12 @@
 // What tables hold.
 ghost use Rattle.std.specs.Prelude.{◌≡◌, ◌+◌, ◌<◌, length};
-ghost use Rattle.theory.specs.Problem.{words_in_order};
+ghost use Rattle.theory.specs.Problem.{no_problem, words_in_order};
 ghost use Rattle.theory.specs.Sizes.{Fits};
 ghost use Rattle.layout.specs.View.{scopes_of, words_in, start_in};
-ghost use Rattle.tables.specs.View.{problem_of, table_of, no_problem};
+ghost use Rattle.tables.specs.View.{problem_of, table_of};
 
 use crate::tables::Tables;
-use layout::Layout;
+use layout::{Layout, MOST_WORDS};
 
 impl Tables {
     // No variable and no function.
@@ -15,7 +15,7 @@ impl Tables {
     {
         Tables {
             layout: Layout::empty(),
-            words: [0; 4096],
+            words: [0; MOST_WORDS],
         }
     }
 
@@ -32,7 +32,7 @@ impl Tables {
         ensures words { result.now ≡ words_in_order (problem_of self.now) }
         ensures fits { Fits (problem_of self.now) }
     {
-        &self.words[0..count]
+        &self.words[..count]
     }
 
     // The words of the table of a function; none where there is no such function.

@@ -1,11 +1,11 @@
 use Rattle.std.proofs.Common.{◌≡◌, ℕ, suc, ◌+◌, ◌*◌, ◌^◌, ◌<◌, ◌≤◌, List, [], ◌∷◌, map, length, get_or, take, sym, ap, ◌∙◌, subst, ap₂, mul-le-mul_left, add-one, arith}
 use native.Mathlib.Nat.{pow-le-pow_right, pow-succ'}
-use Rattle.std.proofs.lemmas.List.{get_or-take, length-map, map_push, take_more, take_all}
+use Rattle.std.proofs.lemmas.List.{length-map, map_push, take_more, take_all}
 use Rattle.theory.specs.Problem.{index, product}
 use Rattle.theory.proofs.Index.{Within, index_below, index_push}
+use Rattle.layout.specs.declared.layout.Layout.{Layout}
 use Rattle.layout.specs.Scopes.{sizes_of, values_of, InDomains}
 use Rattle.layout.specs.View.{domains_of}
-use Rattle.layout.proofs.Shapes.{variable_at}
 use Rattle.layout.proofs.layout.Layout.place.Goals as goal
 
 -- the place so far, with one place more
@@ -31,6 +31,9 @@ index_more domains plan scope i h =
     ∙ ap₂ index (sym (map_push size (take i scope) here)) (sym (map_push value (take i scope) here))
     ∙ ap (λ (s : List ℕ). index (sizes_of domains s) (values_of plan s)) (sym (take_more scope i 0 h))
 
+size_few : (l : Layout) (ds : List ℕ) → ds ≡ domains_of l → (v : ℕ) → v < length (domains_of l) → get_or ds v 0 ≤ 16
+size_few l ds e v h = rw e (l.sizes v h).1
+
 within : (domains plan scope : List ℕ) → InDomains domains scope plan → Within (sizes_of domains scope) (values_of plan scope)
 within domains plan [] fits = tt
 within domains plan (v ∷ scope) fits = (fits 0 (omega arith), within domains plan scope (λ p h. fits (suc p) (omega arith)))
@@ -38,39 +41,39 @@ within domains plan (v ∷ scope) fits = (fits 0 (omega arith), within domains p
 pub overflow_mul-place : goal.overflow_mul-place
 overflow_mul-place c =
     let i = c.loop-variable.variable-index in
-    let l = c.args.self.now in
-    let next = variable_at l c.args.scope.now i c.requires.known c.loop-variable-test.true in
-    let step = grown c.loop-variable.place (get_or l.domains (get_or c.args.scope.now i 0) 0) 0 i c.loop-variable.invariant.1 next.1 (omega arith) in
+    let ds = c.domains-domains.result.now in
+    let v = get_or c.args.scope.now i 0 in
+    let low = size_few c.args.self.now ds c.domains-domains.ensures v (c.requires.known i c.loop-variable-test.true) in
+    let step = grown c.loop-variable.place (get_or ds v 0) 0 i c.loop-variable.invariant.1 low (omega arith) in
     record { fits = omega (arith, bounded _ (i + 1) (omega (arith, c.requires.few)) step) }
 
 pub overflow_add-place : goal.overflow_add-place
 overflow_add-place c =
     let i = c.loop-variable.variable-index in
-    let l = c.args.self.now in
+    let ds = c.domains-domains.result.now in
     let v = get_or c.args.scope.now i 0 in
-    let next = variable_at l c.args.scope.now i c.requires.known c.loop-variable-test.true in
-    let step = grown c.loop-variable.place (get_or l.domains v 0) (get_or c.args.plan v 0) i c.loop-variable.invariant.1 next.1 (omega arith) in
+    let low = size_few c.args.self.now ds c.domains-domains.ensures v (c.requires.known i c.loop-variable-test.true) in
+    let step = grown c.loop-variable.place (get_or ds v 0) (get_or c.args.plan v 0) i c.loop-variable.invariant.1 low (omega arith) in
     record { fits = omega (arith, bounded _ (i + 1) (omega (arith, c.requires.few)) step) }
 
 pub loop-variable-preserved : goal.loop-variable-preserved
 loop-variable-preserved c =
     let i = c.loop-variable.variable-index in
-    let l = c.args.self.now in
+    let ds = c.domains-domains.result.now in
     let scope = c.args.scope.now in
     let v = get_or scope i 0 in
-    let next = variable_at l scope i c.requires.known c.loop-variable-test.true in (
-      ap₂ (λ (n m : ℕ). n * m + get_or c.args.plan v 0) c.loop-variable.invariant.0 (sym (get_or-take l.variables l.domains v 0 next.0))
-          ∙ index_more (domains_of l) c.args.plan scope i c.loop-variable-test.true,
-      grown c.loop-variable.place (get_or l.domains v 0) (get_or c.args.plan v 0) i c.loop-variable.invariant.1 next.1 (omega arith),
+    let low = size_few c.args.self.now ds c.domains-domains.ensures v (c.requires.known i c.loop-variable-test.true) in (
+      ap (λ (n : ℕ). n * get_or ds v 0 + get_or c.args.plan v 0) c.loop-variable.invariant.0 ∙ index_more ds c.args.plan scope i c.loop-variable-test.true,
+      grown c.loop-variable.place (get_or ds v 0) (get_or c.args.plan v 0) i c.loop-variable.invariant.1 low (omega arith),
     )
 
 pub returns : goal.returns
 returns c =
-    let l = c.args.self.now in
+    let ds = domains_of c.args.self.now in
     let scope = c.args.scope.now in
     let all = take_all c.loop-variable.variable-index scope c.loop-variable-test.false in
-    let is = c.loop-variable.invariant.0 ∙ ap (λ (s : List ℕ). index (sizes_of (domains_of l) s) (values_of c.args.plan s)) all in
+    let is = c.loop-variable.invariant.0 ∙ ap₂ (λ (domains s : List ℕ). index (sizes_of domains s) (values_of c.args.plan s)) c.domains-domains.ensures all in
     record {
       value = is;
-      inside = λ fits. subst (λ (n : ℕ). n < product (sizes_of (domains_of l) scope)) (sym is) (index_below (sizes_of (domains_of l) scope) (values_of c.args.plan scope) (within (domains_of l) c.args.plan scope fits));
+      inside = λ fits. subst (λ (n : ℕ). n < product (sizes_of ds scope)) (sym is) (index_below (sizes_of ds scope) (values_of c.args.plan scope) (within ds c.args.plan scope fits));
     }

@@ -1,30 +1,22 @@
-use Rattle.std.proofs.Common.{ℕ, ◌≤◌, length, refl, subst, arith}
-use Rattle.std.proofs.lemmas.List.{length-set, length-take}
-use Rattle.theory.specs.Sizes.{combinations, Known}
+use Rattle.std.proofs.Common.{ℕ, List, map, length, set, sym, refl, ap, ◌∙◌, subst, arith}
+use Rattle.std.proofs.lemmas.List.{length-set, length-map, length_push, map_push}
+use Rattle.short_list.specs.View.{items_of}
+use Rattle.short_list.proofs.Lengths.{few_items}
 use Rattle.layout.specs.Scopes.{listed}
 use Rattle.layout.specs.View.{domains_of}
-use Rattle.layout.proofs.Shapes.{more_scopes, more_functions, more_each, more_few, more_used, more_placed}
+use Rattle.layout.proofs.Shapes.{Fitting, fitting, fitting_function}
 use Rattle.layout.proofs.layout.Layout.push_function.Goals as goal
 
-pub invariant_of-self : goal.invariant_of-self
-invariant_of-self c =
+pub invariant_of-result : goal.invariant_of-result
+invariant_of-result c =
     let l = c.args.self in
     let s = c.args.scope in
-    let room = c.requires.room in
-    let known = subst (λ (n : ℕ). Known n (listed s)) l.lengths.0 c.requires.known in
-    let four : length (listed s) ≤ 4 = let few = s.few in let cut = length-take s.size s.variables in omega arith in
-    record {
-      room = (l.room.0, simp length-set l.room.1, simp length-set l.room.2);
-      lengths = (l.lengths.0, more_functions l s room);
-      counts = (l.counts.0, omega arith);
-      sizes = l.sizes;
-      places = more_each l s room (λ x. (1 ≤ length x) × (length x ≤ 4)) l.places (c.requires.some, four);
-      known = more_each l s room (Known l.variables) l.known known;
-      small = more_each l s room (λ x. combinations (domains_of l) x ≤ 1024) l.small c.requires.small;
-      few = more_few l s room c.args.end c.requires.end c.requires.few;
-      used = more_used l s room c.args.end c.requires.end;
-      placed = more_placed l s room c.args.end c.requires.end;
-    }
+    let more = ap (map listed) c.push.ensures ∙ map_push listed (items_of l.scopes) s in
+    let at = c.len.ensures.long ∙ ap length c.push.ensures ∙ length_push (items_of l.scopes) s in
+    let long = length-map (items_of l.scopes) listed in
+    let fits = subst (λ (scopes : List (List ℕ)). Fitting (domains_of l) scopes (set l.starts c.len.result c.args.end)) (sym more)
+    (fitting_function (fitting l) (listed s) c.len.result c.args.end (omega arith) (omega (arith, c.requires.room, l.room)) c.requires.end (c.requires.some, few_items s.variables) c.requires.known c.requires.small c.requires.few) in
+    record { room = simp length-set l.room; sizes = fits.sizes; places = fits.places; known = fits.known; small = fits.small; few = fits.few; used = fits.used; placed = fits.placed }
 
 pub returns : goal.returns
-returns c = record { domains = refl; scopes = more_scopes c.args.self c.args.scope c.requires.room }
+returns c = record { domains = refl; scopes = ap (map listed) c.push.ensures ∙ map_push listed (items_of c.args.self.scopes) c.args.scope }
