@@ -12,7 +12,7 @@ use Rattle.layout.specs.View.{domains_of, scopes_of, words_in}
 use Rattle.tables.specs.declared.tables.Tables.{Tables}
 use Rattle.tables.specs.View.{problem_of}
 use Rattle.tables.proofs.Ordered.{in_order, functions_length, scope_from}
-use Rattle.file.specs.declared.header.Header.{Header}
+use Rattle.file.specs.declared.places.Header.{Header}
 use Rattle.file.specs.Bytes.{half, word, part}
 use Rattle.file.specs.Places.{domains_place, scopes_place, entries_place, file_length}
 use Rattle.file.specs.Spelling.{Spells, AllEntries, scope_bytes}

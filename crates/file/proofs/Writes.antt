@@ -1,15 +1,11 @@
 -- Bytes that are written one after the other. Assumes nothing.
-use Rattle.std.proofs.Common.{◌≡◌, ℕ, ◌+◌, ◌*◌, ◌/◌, ◌%◌, ◌<◌, ◌≤◌, List, [], ◌∷◌, length, get_or, set, sym, refl, ap, ◌∙◌, subst, inl, inr, ⊎_elim, arith}
+use Rattle.std.proofs.Common.{◌≡◌, ℕ, ◌+◌, ◌*◌, ◌/◌, ◌%◌, ◌<◌, ◌≤◌, List, [], ◌∷◌, length, get_or, sym, refl, ap, ◌∙◌, subst, inl, inr, ⊎_elim, arith}
 use native.Mathlib.Nat.{div-div-eq-div-mul}
-use Rattle.std.proofs.lemmas.List.{ext_get_or, get_or-set_same, get_or-set_other}
+use Rattle.std.proofs.lemmas.List.{ext_get_or}
 use Rattle.std.proofs.lemmas.Bool.{cases_lt}
 use Rattle.file.specs.Bytes.{half, word, part}
 use Rattle.file.specs.Inner.{Written}
 use Rattle.file.proofs.Parts.{part_at, part_length}
-
--- nothing is written yet
-pub written_none : (bs : List ℕ) (n : ℕ) → Written bs bs n n
-written_none bs n = record { outside = λ k h. refl; bytes = λ k low high. absurd (omega arith) }
 
 -- a write behind what was written
 pub written_more : (a b c : List ℕ) (from mid to : ℕ) → from ≤ mid → mid ≤ to → Written a b from mid → Written b c mid to → Written a c from to
@@ -25,15 +21,17 @@ written_more a b c from mid to low high first second = record {
       (cases_lt k mid);
 }
 
--- one byte more
-pub written_byte : (a b : List ℕ) (from at x : ℕ) → from ≤ at → at < length b → x < 256 → Written a b from at → Written a (set b at x) from (at + 1)
-written_byte a b from at x low room small first =
-    written_more a b (set b at x) from at (at + 1) low (omega arith) first (record {
-      outside = λ k h. get_or-set_other b at k x 0 (⊎_elim (λ (lt : k < at). omega arith) (λ (ge : at + 1 ≤ k). omega arith) h);
-      bytes = λ k ge lt.
-          let here : k ≡ at = omega arith in
-          subst (λ (n : ℕ). n < 256) (sym (ap (λ (j : ℕ). get_or (set b at x) j 0) here ∙ get_or-set_same b at x 0 room)) small;
-    })
+-- n bytes more, from a place up to another
+pub record Put (a b c : List ℕ) (place from to n : ℕ) (bs : List ℕ) : Type 0 where
+  pub written : Written a c place to
+  pub last : Written b c from to
+  pub content : part c from n ≡ bs
+
+pub one_more : (a b c : List ℕ) (place from to n : ℕ) (bs : List ℕ) → length bs ≡ n → place ≤ from → from + n ≡ to →
+    Written a b place from → Written b c from (from + length bs) → part c from (length bs) ≡ bs → Put a b c place from to n bs
+one_more a b c place from to n bs long low end so_far put content =
+    let last : Written b c from to = subst (λ (e : ℕ). Written b c from e) (omega arith) put in
+    record { written = written_more a b c place from to low (omega arith) so_far last; last = last; content = ap (part c from) (sym long) ∙ content }
 
 -- what lies before a write is kept
 module _ (b c : List ℕ) (mid to : ℕ) (second : Written b c mid to) where

@@ -1,48 +1,43 @@
 -- What the inner functions hand on to each other; no public function speaks of it. Assumes nothing.
-use Rattle.std.specs.Prelude.{◌≡◌, ℕ, ◌+◌, ◌*◌, ◌<◌, ◌≤◌, ◌⊎◌, List, length, slice_index}
+use Rattle.std.specs.Prelude.{◌≡◌, ℕ, ◌*◌, ◌/◌, ◌<◌, ◌≤◌, ◌⊎◌, List, length, slice_index}
 use Rattle.scale.specs.Rules.{Rules}
 use Rattle.theory.specs.Problem.{Problem, variables, functions, words_in_order}
 use Rattle.tables.specs.declared.tables.Tables.{Tables}
 use Rattle.tables.specs.View.{problem_of}
-use Rattle.file.specs.declared.header.Header.{Header}
+use Rattle.file.specs.declared.places.Header.{Header}
 use Rattle.file.specs.declared.reading.Found.{Found}
 use Rattle.file.specs.Bytes.{half, word}
 use Rattle.file.specs.Places.{file_length}
 use Rattle.file.specs.Reading.{ReadAs}
 
--- the counts that the header of a file of bytes tells, within the sizes
+-- the counts that the header of a file of bytes tells
 pub record Counted (bs : List ℕ) (h : Header) : Type 0 where
   pub bytes : (k : ℕ) → slice_index bs k < 256
   pub header : 16 ≤ length bs
   pub variables : h.variables ≡ half bs 2
   pub functions : h.functions ≡ half bs 4
   pub entries : h.entries ≡ half bs 6
-  pub few_variables : h.variables ≤ 64
-  pub few_functions : h.functions ≤ 64
-  pub few_entries : h.entries ≤ 4096
 
 -- and the file is as long as they say
 pub record Told (bs : List ℕ) (h : Header) : Type 0 where
   pub counted : Counted bs h
   pub long : length bs ≡ file_length h.variables h.functions h.entries
 
--- the counts of a problem, within the sizes
+-- the counts of a problem
 pub record CountsOf (P : Problem) (h : Header) : Type 0 where
   pub variable_count : h.variables ≡ variables P
   pub function_count : h.functions ≡ functions P
   pub entry_count : h.entries ≡ length (words_in_order P)
-  pub few : (h.variables ≤ 64) × (h.functions ≤ 64) × (h.entries ≤ 4096)
 
--- tables hold the layout that was found, and the words that stand in the bytes from its place on
-pub record Holds (t : Tables) (bs : List ℕ) (found : Found) : Type 0 where
+-- tables hold the layout and the entries that were found
+pub record Holds (t : Tables) (found : Found) : Type 0 where
   pub layout : t.layout ≡ found.layout
-  pub words : (k : ℕ) → k < found.count → slice_index t.words k ≡ word bs (found.place + 4 * k)
+  pub words : (k : ℕ) → k < length found.entries.now / 4 → slice_index t.words k ≡ word found.entries.now (4 * k)
 
 -- What is found in a file that meets no test, and so what tables that hold it are.
 pub record FoundIn {E : Type 0} (R : Rules E) (bs : List ℕ) (found : Found) : Type 0 where
-  pub few : found.count ≤ 4096
-  pub long : length bs ≡ found.place + 4 * found.count
-  pub read_as : (t : Tables) → Holds t bs found → ReadAs R bs (problem_of t)
+  pub few : length found.entries.now ≤ 16384
+  pub read_as : (t : Tables) → Holds t found → ReadAs R bs (problem_of t)
 
 -- Bytes were written from one place up to another, and nothing else was changed.
 pub record Written (before after : List ℕ) (from to : ℕ) : Type 0 where

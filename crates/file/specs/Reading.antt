@@ -1,5 +1,5 @@
 -- What reading a file leaves. Assumes nothing.
-use Rattle.std.specs.Prelude.{◌≡◌, ℕ, List, Ok, Err, Result}
+use Rattle.std.specs.Prelude.{◌≡◌, ℕ, List}
 use Rattle.scale.specs.Rules.{Rules}
 use Rattle.theory.specs.Problem.{Problem}
 use Rattle.file.specs.Spelling.{Spells, AllEntries}
@@ -9,8 +9,3 @@ pub record ReadAs {E : Type 0} (R : Rules E) (bs : List ℕ) (P : Problem) : Typ
   pub spelled : Spells R.code bs P
   pub entries : AllEntries R P
   pub again : (cs : List ℕ) → Spells R.code cs P → cs ≡ bs
-
--- a declined call leaves what it was given as it was
-abbrev pub Untouched : {T F X : Type 0} → Result T F → X → X → Type 0
-Untouched (Ok x) before after = Unit {0}
-Untouched (Err f) before after = after ≡ before

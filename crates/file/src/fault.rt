@@ -1,6 +1,5 @@
 // Why a file is declined, and where.
-ghost use Rattle.std.specs.Prelude.{◌≡◌, ℕ, Result};
-ghost use Rattle.file.specs.declared.fault.FileFault.{FileFault as Fault};
+ghost use Rattle.std.specs.Prelude.{◌≡◌};
 ghost use Rattle.file.specs.Numbers.{file_number, located};
 
 use layout::ProblemFault;
@@ -24,6 +23,15 @@ pub enum FileCause {
     SmallBuffer,
     // The problem declines a domain, a scope or a word.
     Problem(ProblemFault),
+}
+
+impl FileCause {
+    // This cause, at a byte place.
+    pub(crate) fn at(self, place: usize) -> FileFault
+        ensures { result ≡ record { cause = self; place = place } }
+    {
+        FileFault { cause: self, place }
+    }
 }
 
 // The place is that of the first bad header field, domain byte, scope record or word.
@@ -61,23 +69,8 @@ impl fmt::Display for FileFault {
 }
 
 // A result of the problem, with the byte place that a refusal belongs to.
-pub(crate) trait AtByte<T>: Sized {
-    ghost places: { Self → ℕ → Result T Fault };
-
-    fn at_byte(self, place: usize) -> Result<T, FileFault>
-        ensures { result ≡ places self place };
-}
-
-impl<T> AtByte<T> for Result<T, ProblemFault> {
-    ghost places = { located };
-
-    fn at_byte(self, place: usize) -> Result<T, FileFault> {
-        match self {
-            Ok(value) => Ok(value),
-            Err(fault) => Err(FileFault {
-                cause: FileCause::Problem(fault),
-                place,
-            }),
-        }
-    }
+pub(crate) fn located<T>(res: Result<T, ProblemFault>, place: usize) -> Result<T, FileFault>
+    ensures { result ≡ located res place }
+{
+    res.map_err(|fault| FileCause::Problem(fault).at(place))
 }

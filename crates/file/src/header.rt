@@ -1,24 +1,14 @@
-// The first 16 bytes of a file: eight numbers of 16 bits.
+// Reading the header, the first 16 bytes of a file: eight numbers of 16 bits.
 ghost use Rattle.std.specs.Prelude.{◌≡◌, ℕ, ◌+◌, ◌<◌, ◌≤◌, length, slice_index};
 ghost use Rattle.theory.specs.Refusals.{Answered};
 ghost use Rattle.file.specs.Bytes.{half};
 ghost use Rattle.file.specs.Numbers.{refusal};
-ghost use Rattle.file.specs.Places.{file_length};
 ghost use Rattle.file.specs.Tests.{code_tests, count_tests, place_tests, header_tests};
 ghost use Rattle.file.specs.Inner.{Counted, Told};
 
 use crate::fault::{FileCause, FileFault};
+use crate::places::{HEADER, Header};
 use layout::{MOST_FUNCTIONS, MOST_VARIABLES, MOST_WORDS};
-
-const HEADER: usize = 16;
-
-// How many variables, functions and entries a header tells.
-#[derive(Clone, Copy)]
-pub(crate) struct Header {
-    pub variables: usize,
-    pub functions: usize,
-    pub entries: usize,
-}
 
 // The 16-bit number at a place, the low byte first.
 fn half_at(bytes: &[u8], place: usize) -> usize
@@ -35,10 +25,7 @@ pub fn scale_code(bytes: &[u8]) -> Result<u16, FileFault>
     ensures { Answered refusal (code_tests bytes.now) (λ code. code ≡ half bytes.now 0) result }
 {
     if bytes.len() < HEADER {
-        return Err(FileFault {
-            cause: FileCause::Short,
-            place: 0,
-        });
+        return Err(FileCause::Short.at(0));
     }
     Ok(half_at(bytes, 0) as u16)
 }
@@ -47,38 +34,20 @@ pub fn scale_code(bytes: &[u8]) -> Result<u16, FileFault>
 fn read_counts(bytes: &[u8], code: u16) -> Result<Header, FileFault>
     ensures { Answered refusal (count_tests code bytes.now) (Counted bytes.now) result }
 {
-    if bytes.len() < HEADER {
-        return Err(FileFault {
-            cause: FileCause::Short,
-            place: 0,
-        });
-    }
-    if half_at(bytes, 0) != code as usize {
-        return Err(FileFault {
-            cause: FileCause::OtherScale,
-            place: 0,
-        });
+    if scale_code(bytes)? != code {
+        return Err(FileCause::OtherScale.at(0));
     }
     let variables = half_at(bytes, 2);
     if variables > MOST_VARIABLES {
-        return Err(FileFault {
-            cause: FileCause::TooMany,
-            place: 2,
-        });
+        return Err(FileCause::TooMany.at(2));
     }
     let functions = half_at(bytes, 4);
     if functions > MOST_FUNCTIONS {
-        return Err(FileFault {
-            cause: FileCause::TooMany,
-            place: 4,
-        });
+        return Err(FileCause::TooMany.at(4));
     }
     let entries = half_at(bytes, 6);
     if entries > MOST_WORDS {
-        return Err(FileFault {
-            cause: FileCause::TooMany,
-            place: 6,
-        });
+        return Err(FileCause::TooMany.at(6));
     }
     Ok(Header {
         variables,
@@ -92,45 +61,23 @@ fn check_places(bytes: &[u8], header: Header) -> Result<(), FileFault>
     requires { Counted bytes.now header }
     ensures { Answered refusal (place_tests bytes.now) (λ _. Told bytes.now header) result }
 {
-    let scopes = HEADER + header.variables;
-    let entries = scopes + 5 * header.functions;
     let end = header.file_length();
     if half_at(bytes, 8) != HEADER {
-        return Err(FileFault {
-            cause: FileCause::Misplaced,
-            place: 8,
-        });
+        return Err(FileCause::Misplaced.at(8));
     }
-    if half_at(bytes, 10) != scopes {
-        return Err(FileFault {
-            cause: FileCause::Misplaced,
-            place: 10,
-        });
+    if half_at(bytes, 10) != header.scopes_place() {
+        return Err(FileCause::Misplaced.at(10));
     }
-    if half_at(bytes, 12) != entries {
-        return Err(FileFault {
-            cause: FileCause::Misplaced,
-            place: 12,
-        });
+    if half_at(bytes, 12) != header.entries_place() {
+        return Err(FileCause::Misplaced.at(12));
     }
     if half_at(bytes, 14) != end || bytes.len() != end {
-        return Err(FileFault {
-            cause: FileCause::Misplaced,
-            place: 14,
-        });
+        return Err(FileCause::Misplaced.at(14));
     }
     Ok(())
 }
 
 impl Header {
-    // How long a file with these counts is.
-    pub(crate) fn file_length(self) -> usize
-        requires { (self.variables ≤ 64) × (self.functions ≤ 64) × (self.entries ≤ 4096) }
-        ensures { result ≡ file_length self.variables self.functions self.entries }
-    {
-        HEADER + self.variables + 5 * self.functions + 4 * self.entries
-    }
-
     // The header of a file of the scale with this code.
     pub(crate) fn read(bytes: &[u8], code: u16) -> Result<Header, FileFault>
         ensures { Answered refusal (header_tests code bytes.now) (Told bytes.now) result }

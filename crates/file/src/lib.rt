@@ -4,6 +4,7 @@
 mod entries;
 mod fault;
 mod header;
+mod places;
 mod reading;
 mod scopes;
 mod sections;

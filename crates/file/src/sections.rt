@@ -3,7 +3,7 @@ ghost use Rattle.std.specs.Prelude.{◌≡◌, ◌*◌, length};
 ghost use Rattle.file.specs.Tests.{domains_part, scopes_part, entries_part};
 ghost use Rattle.file.specs.Inner.{Told};
 
-use crate::header::Header;
+use crate::places::{HEADER, Header};
 
 #[derive(Clone, Copy)]
 pub(crate) struct Sections<'a> {
@@ -20,11 +20,11 @@ pub(crate) fn cut<'a>(bytes: &'a [u8], header: Header) -> Sections<'a>
     ensures entries { result.entries.now ≡ entries_part bytes.now }
     ensures lengths { (length result.domains.now ≡ header.variables) × (length result.scopes.now ≡ 5 * header.functions) × (length result.entries.now ≡ 4 * header.entries) }
 {
-    let scopes = 16 + header.variables;
-    let entries = scopes + 5 * header.functions;
+    let scopes = header.scopes_place();
+    let entries = header.entries_place();
     Sections {
-        domains: &bytes[16..scopes],
+        domains: &bytes[HEADER..scopes],
         scopes: &bytes[scopes..entries],
-        entries: &bytes[entries..bytes.len()],
+        entries: &bytes[entries..],
     }
 }

@@ -1,4 +1,4 @@
-use Rattle.std.proofs.Common.{◌≡◌, ℕ, List, ◌++◌, length, sum_by, sym, refl, ◌∙◌, subst, ap₂, inl}
+use Rattle.std.proofs.Common.{◌≡◌, ℕ, ◌/◌, List, ◌++◌, length, sum_by, sym, ap, ◌∙◌, subst, ap₂, inl}
 use Rattle.std.proofs.lemmas.Result.{err_from_is_err_and}
 use Rattle.theory.specs.Refusals.{First, NoneFits}
 use Rattle.theory.specs.Sizes.{combinations}
@@ -13,51 +13,51 @@ pub returns-in_err-domains : goal.returns-in_err-domains
 returns-in_err-domains c =
     let ds = c.args.sections.domains.now in
     let ss = c.args.sections.scopes.now in
-    let h = c.args.header in
+    let n = length ss / 5 in
     let f = c.in_err-domains.field-0.0 in
     let e = err_from_is_err_and c.from_residual.result c.from_residual.ensures.1 in
     rw (e.1, e.2)
-    (first_before (each (length ds) (domain_tests ds)) (each h.functions (scope_tests_at ds ss) ++ sum_tests ds ss h.functions h.entries) (refusal f) c.in_err-domains.ensures)
+    (first_before (each (length ds) (domain_tests ds)) (each n (scope_tests_at ds ss) ++ sum_tests ds ss n c.args.entries) (refusal f) c.in_err-domains.ensures)
 
 pub returns-in_err-layout : goal.returns-in_err-layout
 returns-in_err-layout c =
     let ds = c.args.sections.domains.now in
     let ss = c.args.sections.scopes.now in
-    let h = c.args.header in
+    let n = length ss / 5 in
     let before = c.in_ok-domains.ensures in
     let f = c.in_err-layout.field-0.0 in
     let e = err_from_is_err_and c.from_residual-in_err-layout.result c.from_residual-in_err-layout.ensures.1 in
-    let here = subst (λ (d : List ℕ). First (each h.functions (scope_tests_at d ss)) (refusal f)) before.1.0 c.in_err-layout.ensures in
+    let here = subst (λ (d : List ℕ). First (each n (scope_tests_at d ss)) (refusal f)) before.1.0 c.in_err-layout.ensures in
     rw (e.1, e.2)
-    (first_after (each (length ds) (domain_tests ds)) (each h.functions (scope_tests_at ds ss) ++ sum_tests ds ss h.functions h.entries) (refusal f) before.0
-    (first_before (each h.functions (scope_tests_at ds ss)) (sum_tests ds ss h.functions h.entries) (refusal f) here))
+    (first_after (each (length ds) (domain_tests ds)) (each n (scope_tests_at ds ss) ++ sum_tests ds ss n c.args.entries) (refusal f) before.0
+    (first_before (each n (scope_tests_at ds ss)) (sum_tests ds ss n c.args.entries) (refusal f) here))
 
 -- the words of a layout that was read
 used : (l : Layout) (ds ss : List ℕ) (n : ℕ) → domains_of l ≡ ds → scopes_of l ≡ scopes_told ss n → words_in l ≡ words_told ds ss n
 used l ds ss n domains scopes = ap₂ (λ (d : List ℕ) (s : List (List ℕ)). sum_by (combinations d) s) domains scopes
 
-pub returns-then-header-words : goal.returns-then-header-words
-returns-then-header-words c =
+pub returns-then-entries-words : goal.returns-then-entries-words
+returns-then-entries-words c =
     let ds = c.args.sections.domains.now in
     let ss = c.args.sections.scopes.now in
-    let h = c.args.header in
+    let n = length ss / 5 in
     let before = c.in_ok-domains.ensures in
     let after = c.in_ok-layout.ensures in
-    let none = subst (λ (d : List ℕ). NoneFits (each h.functions (scope_tests_at d ss))) before.1.0 after.0 in
-    let words = c.words.ensures ∙ used c.in_ok-layout.layout ds ss h.functions (after.1.0 ∙ before.1.0) after.1.1 in
-    first_after (each (length ds) (domain_tests ds)) (each h.functions (scope_tests_at ds ss) ++ sum_tests ds ss h.functions h.entries) (23, 6) before.0
-    (first_after (each h.functions (scope_tests_at ds ss)) (sum_tests ds ss h.functions h.entries) (23, 6) none (inl ((λ e. c.if-header-words.true (e ∙ sym words)), refl)))
+    let none = subst (λ (d : List ℕ). NoneFits (each n (scope_tests_at d ss))) before.1.0 after.0 in
+    let words = c.words.ensures ∙ used c.in_ok-layout.layout ds ss n (after.1.0 ∙ before.1.0) after.1.1 in
+    first_after (each (length ds) (domain_tests ds)) (each n (scope_tests_at ds ss) ++ sum_tests ds ss n c.args.entries) (refusal c.at.result) before.0
+    (first_after (each n (scope_tests_at ds ss)) (sum_tests ds ss n c.args.entries) (refusal c.at.result) none (inl ((λ e. c.if-entries-words.true (e ∙ sym words)), ap refusal c.at.ensures)))
 
 pub returns : goal.returns
 returns c =
     let ds = c.args.sections.domains.now in
     let ss = c.args.sections.scopes.now in
-    let h = c.args.header in
+    let n = length ss / 5 in
     let before = c.in_ok-domains.ensures in
     let after = c.in_ok-layout.ensures in
-    let none = subst (λ (d : List ℕ). NoneFits (each h.functions (scope_tests_at d ss))) before.1.0 after.0 in
-    let words = c.words.ensures ∙ used c.in_ok-layout.layout ds ss h.functions (after.1.0 ∙ before.1.0) after.1.1 in (
-      none_both (each (length ds) (domain_tests ds)) (each h.functions (scope_tests_at ds ss) ++ sum_tests ds ss h.functions h.entries) before.0
-          (none_both (each h.functions (scope_tests_at ds ss)) (sum_tests ds ss h.functions h.entries) none ((λ differs. differs (c.if-header-words.false ∙ words)), tt)),
+    let none = subst (λ (d : List ℕ). NoneFits (each n (scope_tests_at d ss))) before.1.0 after.0 in
+    let words = c.words.ensures ∙ used c.in_ok-layout.layout ds ss n (after.1.0 ∙ before.1.0) after.1.1 in (
+      none_both (each (length ds) (domain_tests ds)) (each n (scope_tests_at ds ss) ++ sum_tests ds ss n c.args.entries) before.0
+          (none_both (each n (scope_tests_at ds ss)) (sum_tests ds ss n c.args.entries) none ((λ differs. differs (c.if-entries-words.false ∙ words)), tt)),
       (after.1.0 ∙ before.1.0, after.1.1),
     )

@@ -1,4 +1,4 @@
-use Rattle.std.proofs.Common.{◌≡◌, ℕ, ◌-◌, List, [], ◌∷◌, ◌++◌, length, arith}
+use Rattle.std.proofs.Common.{◌≡◌, ℕ, List, [], ◌∷◌, ◌++◌, length, arith}
 use Rattle.layout.specs.declared.layout.Layout.{Layout}
 use Rattle.layout.specs.View.{domains_of, scopes_of, words_in}
 use Rattle.file.proofs.Records.{told_answered}
@@ -9,5 +9,5 @@ returns c =
     let l = c.args.layout in
     let told = told_answered (domains_of l) c.args.bytes.now (length (scopes_of l)) (words_in l) c.args.place
     (λ (xs : List ℕ) (m : Layout). (domains_of m ≡ domains_of l) × (scopes_of m ≡ scopes_of l ++ (xs ∷ [])))
-    (c.min-size.result - 0) (omega (arith, c.min-size.ensures)) c.with_function.result c.with_function.ensures in
-    rw c.at_byte.ensures told
+    c.min-size.result (omega (arith, c.min-size.ensures)) c.with_function.result c.with_function.ensures in
+    rw c.located.ensures told

@@ -1,10 +1,10 @@
 use Rattle.std.proofs.Common.{◌≡◌, ℕ, ◌+◌, ◌≤◌, List, [], ◌∷◌, ◌++◌, length, get_or, take, sym, ap, ◌∙◌, subst, arith}
-use Rattle.std.proofs.lemmas.List.{length-take-le, take_all, take_more}
+use Rattle.std.proofs.lemmas.List.{length-take-le, take_more}
 use Rattle.std.proofs.lemmas.Result.{err_from_is_err_and}
 use Rattle.theory.specs.Refusals.{First, NoneFits, variable_tests}
 use Rattle.layout.specs.View.{domains_of}
 use Rattle.file.specs.Numbers.{refusal}
-use Rattle.file.specs.Tests.{each, at_place, domain_tests}
+use Rattle.file.specs.Tests.{at_place, domain_tests}
 use Rattle.file.proofs.Testing.{none_each, none_more, first_each}
 use Rattle.file.proofs.scopes.read_domains.Goals as goal
 
@@ -38,10 +38,3 @@ loop-v-preserved c =
       h.1.0 ∙ ap (λ (ds : List ℕ). ds ++ (size ∷ [])) c.loop-v.invariant.1 ∙ sym (take_more section v 0 c.loop-v-test.true),
       h.1.1 ∙ c.loop-v.invariant.2,
     )
-
-pub returns : goal.returns
-returns c =
-    let section = c.args.section.now in
-    let all : c.loop-v.v ≡ length section = omega arith in
-    let whole = take_all c.loop-v.v section (omega arith) in
-    (subst (λ (n : ℕ). NoneFits (each n (domain_tests section))) all c.loop-v.invariant.0, (c.loop-v.invariant.1 ∙ whole, c.loop-v.invariant.2))

@@ -1,4 +1,4 @@
-use Rattle.std.proofs.Common.{◌≡◌, ℕ, ◌+◌, ◌*◌, ◌<◌, List, [], ◌∷◌, length, get_or, sym, refl, ap, ◌∙◌, subst, ap₂, arith}
+use Rattle.std.proofs.Common.{◌≡◌, ℕ, ◌+◌, ◌*◌, ◌<◌, List, [], ◌∷◌, length, get_or, sym, refl, ap, ◌∙◌, subst, arith}
 use Rattle.theory.specs.Problem.{variables, functions, scope_of, words_in_order}
 use Rattle.layout.specs.View.{domains_of, scopes_of, scope_in}
 use Rattle.tables.specs.declared.tables.Tables.{Tables}
@@ -41,7 +41,7 @@ returns g c =
     let ws = c.all_words.ensures.words in
     let all = ap length ws in
     let size = c.file_length.ensures in
-    let numbers : List ℕ = c.code.result ∷ h.variables ∷ h.functions ∷ h.entries ∷ 16 ∷ (16 + h.variables) ∷ (16 + h.variables + 5 * h.functions) ∷ c.file_length.result ∷ [] in
+    let numbers : List ℕ = c.code.result ∷ h.variables ∷ h.functions ∷ h.entries ∷ 16 ∷ c.scopes_place-scopes.result ∷ c.entries_place-entries.result ∷ c.file_length.result ∷ [] in
     let code = c.code.ensures in
     let same : numbers ≡ numbers_of R.code P = cc in
     let told = λ (j : ℕ) (low : j < 8). c.put_numbers.ensures.content j low ∙ ap (λ (ns : List ℕ). get_or ns j 0) same in
@@ -53,11 +53,13 @@ returns g c =
     let second = between b d _ _ 16 (16 + variables P) refl (omega arith) c.put_bytes.ensures.written in
     let third = between d e _ _ (16 + variables P) (16 + variables P + 5 * functions P) (omega arith) (omega arith) c.put_scopes.ensures.written in
     let fourth = between e f _ _ (16 + variables P + 5 * functions P) (file_size P) (omega arith) (omega arith) c.put_words.ensures.written in
+    let scopes_at : c.scopes_place-scopes.result ≡ 16 + variables P = omega arith in
+    let entries_at : c.entries_place-entries.result ≡ 16 + variables P + 5 * functions P = omega arith in
     let domains = ap (λ (n : ℕ). part d 16 n) (sym ds) ∙ c.put_bytes.ensures.content ∙ c.domains.ensures in
     let scopes = λ (g : ℕ) (lt : g < functions P).
-    ap (λ (n : ℕ). part e (16 + n + 5 * g) 5) (sym vs) ∙ c.put_scopes.ensures.content g (omega arith) ∙ ap scope_bytes (scope_same t g) in
+    ap (λ (n : ℕ). part e (n + 5 * g) 5) (sym scopes_at) ∙ c.put_scopes.ensures.content g (omega arith) ∙ ap scope_bytes (scope_same t g) in
     let words = λ (k : ℕ) (lt : k < length (words_in_order P)).
-    ap₂ (λ (n m : ℕ). word f (16 + n + 5 * m + 4 * k)) (sym vs) (sym fs) ∙ c.put_words.ensures.content k (omega arith) ∙ ap (λ (xs : List ℕ). get_or xs k 0) ws in
+    ap (λ (n : ℕ). word f (n + 4 * k)) (sym entries_at) ∙ c.put_words.ensures.content k (omega arith) ∙ ap (λ (xs : List ℕ). get_or xs k 0) ws in
     let spelled = assembled R.code P a b d e f c.requires.room (omega arith) (omega arith) (omega arith) (omega arith) c.put_numbers.ensures.written second third fourth told domains scopes words in
     record {
       spelled = spelled;
