@@ -7,7 +7,7 @@ use Rattle.theory.specs.Problem.{Problem, Function}
 use Rattle.theory.specs.Sizes.{combinations, EachScope, Known}
 use Rattle.layout.specs.declared.layout.Layout.{Layout}
 use Rattle.layout.specs.View.{domains_of, scopes_of, words_in, start_in}
-use Rattle.layout.proofs.Shapes.{combinations_more, known_here}
+use Rattle.layout.proofs.Shapes.{combinations_more}
 use Rattle.tables.specs.declared.tables.Tables.{Tables}
 use Rattle.tables.specs.View.{functions_from, problem_of, table_of}
 use Rattle.tables.proofs.Ordered.{enough, table_is}
@@ -81,7 +81,7 @@ module _ (t : Tables) (m : Layout) (ws : List ℕ) where
       let ds = domains_of l ++ (s ∷ []) in
       ap₂ (λ (ds : List ℕ) (ss : List (List ℕ)). record { domains = ds; tables = functions_from ds ss ws }) domains scopes
       ∙ ap (λ (vs : List ℕ). record { domains = ds; tables = functions_from ds (scopes_of l) vs }) words
-      ∙ ap (λ (fs : List Function). record { domains = ds; tables = fs }) (functions_more (domains_of l) s (scopes_of l) t.words (known_here l))
+      ∙ ap (λ (fs : List Function). record { domains = ds; tables = fs }) (functions_more (domains_of l) s (scopes_of l) t.words l.known)
 
   pub function_added : (scope rest : List ℕ) (word : ℕ) → domains_of m ≡ domains_of l → scopes_of m ≡ scopes_of l ++ (scope ∷ []) →
       ws ≡ take (words_in l) t.words ++ (replicate (words_in m - words_in l) word ++ rest) →

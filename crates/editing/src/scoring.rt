@@ -18,12 +18,9 @@ fn has_no_value(list: &[usize], sizes: &[u8]) -> bool
     requires { length list.now ≡ length sizes.now }
     ensures { MatchBool result ((v : ℕ) × (v < length sizes.now) × (slice_index sizes.now v ≤ slice_index list.now v)) ((v : ℕ) → v < length sizes.now → slice_index list.now v < slice_index sizes.now v) }
 {
-    for v in 0..list.len() {
-        if list[v] >= sizes[v] as usize {
-            return true;
-        }
-    }
-    false
+    list.iter()
+        .zip(sizes)
+        .any(|(value, size)| *value >= *size as usize)
 }
 
 // Declines a list that has not one value for each variable.
@@ -47,8 +44,9 @@ fn plan_of(list: &[usize]) -> [u8; 64]
     ensures { (v : ℕ) → slice_index result v ≡ slice_index list.now v }
 {
     let mut plan = [0; 64];
-    for v in 0..list.len() {
-        plan[v] = list[v] as u8;
+    // By index: after `iter_mut` a proof knows the length alone.
+    for (v, value) in list.iter().enumerate() {
+        plan[v] = *value as u8;
     }
     plan
 }

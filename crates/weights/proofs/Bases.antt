@@ -1,6 +1,7 @@
 -- Where the entries of a table stand as one value varies: within the table. Assumes nothing.
-use Rattle.std.proofs.Common.{◌≡◌, ℕ, zero, suc, ◌+◌, ◌*◌, ◌/◌, ◌%◌, ◌<◌, ◌≤◌, sym, ap, ◌∙◌, subst, mod-lt, div-lt_iff_lt-mul, add-mul, mul-le-mul_left, mul-zero, div-add-mod', zero-mul, div-le_self, mul_right_comm, arith}
+use Rattle.std.proofs.Common.{◌≡◌, ℕ, zero, suc, ◌+◌, ◌*◌, ◌/◌, ◌%◌, ◌<◌, ◌≤◌, sym, ap, ◌∙◌, subst, mod-lt, div-lt_iff_lt-mul, add-mul, mul-le-mul_left, mul-zero, div-add-mod', zero-mul, mul_assoc, div-le_self, mul_right_comm, arith}
 use native.Mathlib.Nat.{div-eq_of_eq-mul_left}
+use Rattle.std.proofs.Math.Nat.{mul-mod_left}
 use lib.Arith.{digits_lt, digits_div, digits_mod}
 use Rattle.weights.specs.Swings.{base}
 
@@ -30,6 +31,13 @@ some_first (suc a) b h = omega arith
 some_last : (a b : ℕ) → 0 < a * b → 0 < b
 some_last a zero h = omega (arith, mul-zero a)
 some_last a (suc b) h = omega arith
+
+-- a table has whole lines: a multiple of values times stride
+pub multiple : (values stride earlier n : ℕ) → n ≡ earlier * values * stride → n % (values * stride) ≡ 0
+multiple values stride earlier n e = ap (λ (m : ℕ). m % (values * stride)) (e ∙ mul_assoc earlier values stride) ∙ mul-mod_left earlier (values * stride)
+
+pub lines : (values stride n : ℕ) → n % (values * stride) ≡ 0 → n ≡ n / (values * stride) * values * stride
+lines values stride n none = omega (arith, div-add-mod' n (values * stride), none, mul_assoc (n / (values * stride)) values stride)
 
 module _ (values stride earlier n : ℕ) (whole : n ≡ earlier * values * stride) (some : 0 < n) where
   -- the values of the place last

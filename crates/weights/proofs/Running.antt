@@ -1,6 +1,6 @@
 -- A running best: the topmost of the values seen so far. Assumes nothing.
-use Rattle.std.proofs.Common.{◌≡◌, ℕ, ◌+◌, ◌<◌, Bool, true, false, ◌⊎◌, List, sym, refl, ◌∙◌, subst, ap₂, inl, inr, ⊎_elim, arith}
-use Rattle.std.proofs.lemmas.Bool.{cases_eq, both_ways}
+use Rattle.std.proofs.Common.{◌≡◌, ℕ, ◌+◌, ◌<◌, Bool, true, false, if◌then◌else◌, List, sym, refl, ◌∙◌, subst, ap₂, inl, inr, ⊎_elim, arith}
+use Rattle.std.proofs.lemmas.Bool.{cases_Bool, cases_eq, both_ways}
 use Rattle.scale.specs.Rules.{Rules}
 use Rattle.scale.specs.Laws.{Plain}
 use Rattle.theory.specs.Joins.{Highest, Lowest}
@@ -42,8 +42,11 @@ module _ {V E : Type 0} {leq : E → E → Bool} (O : Total leq) (means : V → 
         record { attained = (k, omega arith, v); bound = above (means old) (itself leq O (means old)) down; fine = so_far.fine }
 
     -- the new value where it is at least as high, and else the old one
-    pub next : (r : V) → ((true ≡ leq (means old) (means new)) × (r ≡ new)) ⊎ ((false ≡ leq (means old) (means new)) × (r ≡ old)) → Leads leq means Fine Value (n + 1) r
-    next r = ⊎_elim (λ w. subst (Leads leq means Fine Value (n + 1)) (sym w.1) (raised (sym w.0))) (λ w. subst (Leads leq means Fine Value (n + 1)) (sym w.1) (held (sym w.0)))
+    pub next : (r : V) → r ≡ (if leq (means old) (means new) then new else old) → Leads leq means Fine Value (n + 1) r
+    next r is =
+        subst (Leads leq means Fine Value (n + 1)) (sym is) (
+        ⊎_elim (λ (up : leq (means old) (means new) ≡ true). rw up (raised up)) (λ (low : leq (means old) (means new) ≡ false). rw low (held low))
+        (cases_Bool (leq (means old) (means new))))
 
 -- the topmost of the values of a function, upward and downward
 module _ {V E : Type 0} (R : Rules E) (means : V → E) (Fine : V → Type 0) (g : ℕ → E) (n : ℕ) (best : V) where

@@ -1,8 +1,12 @@
 -- How many combinations of values the places of a function have. Assumes nothing.
-use Rattle.std.proofs.Common.{◌≡◌, ℕ, ◌*◌, ◌/◌, ◌<◌, List, map, drop, ap, ◌∙◌}
+use Rattle.std.proofs.Common.{◌≡◌, ℕ, ◌*◌, ◌/◌, ◌<◌, List, map, length, get_or, drop, sym, ap, ◌∙◌, subst, ap₂}
 use native.Mathlib.Nat.{mul-div_right}
 use Rattle.std.proofs.lemmas.List.{drop_more}
 use Rattle.theory.specs.Problem.{Problem, Sound, product, size, functions, arity, at, scope_of}
+use Rattle.layout.specs.View.{domains_of, scope_in}
+use Rattle.tables.specs.declared.tables.Tables.{Tables}
+use Rattle.tables.specs.View.{problem_of}
+use Rattle.tables.proofs.Ordered.{scope_is}
 use Rattle.weights.specs.Swings.{values_at, stride_at}
 
 -- how many combinations of values the places from p on have
@@ -19,3 +23,12 @@ module _ (P : Problem) (sound : Sound P) (f : ℕ) (known : f < functions P) (p 
 
   pub divided : from_place P f p / values_at P f p ≡ stride_at P f p
   divided = ap (λ (n : ℕ). n / values_at P f p) first_of ∙ mul-div_right (stride_at P f p) some_value
+
+-- how many values a place has, by the domains and the scope of a layout
+pub value_is : (t : Tables) (f : ℕ) (ds s : List ℕ) → ds ≡ domains_of t.layout → s ≡ scope_in t.layout f → (p : ℕ) → get_or ds (get_or s p 0) 0 ≡ values_at (problem_of t) f p
+unfolding size at
+value_is t f ds s domains scope p = ap₂ (λ (ds s : List ℕ). get_or ds (get_or s p 0) 0) domains (scope ∙ sym (scope_is t f))
+
+-- and a place is one of that scope
+pub place_in : (t : Tables) (f : ℕ) (s : List ℕ) → s ≡ scope_in t.layout f → (p : ℕ) → p < arity (problem_of t) f → p < length s
+place_in t f s scope p = subst (λ (s : List ℕ). p < length s) (scope_is t f ∙ sym scope)

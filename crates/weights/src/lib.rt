@@ -6,12 +6,11 @@ ghost use Rattle.theory.specs.Cut.{Weighs};
 ghost use Rattle.theory.specs.Problem.{functions, arity};
 ghost use Rattle.tables.specs.View.{problem_of};
 
-mod places;
+mod link;
 mod swings;
 
-use places::{stride, values_at};
+use link::Link;
 use scale::Measuring;
-use swings::link_weight;
 use tables::Tables;
 
 // The weight of the link at a place of a function: over all values of the function's other variables, the widest gap between its highest and
@@ -22,7 +21,10 @@ pub fn weight<V: Measuring>(tables: &Tables, function: usize, place: usize) -> V
     ensures value { Weighs V.Scale.rules (problem_of tables.now) function place (V.Scale.means result) }
     ensures within { V.Scale.within 2 result }
 {
-    let values = values_at(tables, function, place);
-    let stride = stride(tables, function, place);
-    link_weight::<V>(tables, function, place, values, stride)
+    let link = Link {
+        tables,
+        function,
+        place,
+    };
+    link.weight::<V>(link.values(), link.stride())
 }

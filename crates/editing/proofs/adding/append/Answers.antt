@@ -1,11 +1,11 @@
-use Rattle.std.proofs.Common.{ℕ, ◌-◌, ◌++◌, take, drop, replicate, sym, refl, ◌∙◌, ap₂, arith}
+use Rattle.std.proofs.Common.{ℕ, ◌-◌, ◌++◌, take, drop, replicate, sym, refl, ◌∙◌, ap₂}
 use Rattle.std.proofs.lemmas.Result.{err_from_is_err_and}
 use Rattle.layout.specs.Numbers.{problem_number}
 use Rattle.layout.specs.View.{domains_of, scopes_of, words_in}
 use Rattle.tables.specs.View.{problem_of}
 use Rattle.tables.proofs.Ordered.{functions_length, scopes_from, within_sizes}
 use Rattle.calls.proofs.Forms.{first_by_scopes, none_by_scopes}
-use Rattle.editing.proofs.Edited.{new_words, function_added}
+use Rattle.editing.proofs.Edited.{function_added}
 use Rattle.editing.proofs.adding.append.Goals as goal
 
 pub returns-in_err-layout : goal.returns-in_err-layout
@@ -19,15 +19,6 @@ returns-in_err-layout c =
       answer = first_by_scopes (problem_of t) (within_sizes t).sound (scopes_of l) told c.args.scope.now (problem_number f) c.in_err-layout.ensures;
       declined = refl;
     })
-
-pub fill-requires : goal.fill-requires
-fill-requires c =
-    let t = c.args.tables.now in
-    let accepted = c.in_ok-layout.ensures.1 in
-    let more = new_words t.layout c.in_ok-layout.layout c.args.scope.now accepted.0 accepted.1 in
-    let few = c.in_ok-layout.layout.few in
-    let room = t.room in
-    record { order = omega (arith, c.words-start.ensures, c.words.ensures); room = omega (arith, c.words.ensures) }
 
 pub returns : goal.returns
 returns c =

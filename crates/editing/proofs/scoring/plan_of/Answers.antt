@@ -1,4 +1,4 @@
-use Rattle.std.proofs.Common.{◌≡◌, ℕ, ◌<◌, ◌≤◌, length, get_or, replicate, sym, refl, ◌∙◌, ⊎_elim, arith}
+use Rattle.std.proofs.Common.{◌≡◌, ℕ, ◌<◌, ◌≤◌, get_or, replicate, refl, ⊎_elim, arith}
 use Rattle.std.proofs.lemmas.List.{get_or_past, get_or-replicate, length-replicate}
 use Rattle.std.proofs.lemmas.Bool.{cases_lt}
 use Rattle.editing.proofs.scoring.plan_of.Goals as goal
@@ -13,11 +13,3 @@ same_everywhere n v x =
 
 pub loop-v-init : goal.loop-v-init
 loop-v-init c = (refl, λ v h. omega arith, λ v h. same_everywhere 64 v 0)
-
-pub returns : goal.returns
-returns c v =
-    let list = c.args.list.now in
-    ⊎_elim
-    (λ (lt : v < length list). c.loop-v.invariant.1 v (omega arith))
-    (λ (le : length list ≤ v). c.loop-v.invariant.2 v (omega arith) ∙ sym (get_or_past list v 0 le))
-    (cases_lt v (length list))
