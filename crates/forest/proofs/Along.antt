@@ -51,9 +51,6 @@ upto_none G order K label none alone = record {
   each = λ j h. absurd (omega arith);
 }
 
-pub upto_all : (G : Graph) (order : List ℕ) (K : ℕ → Bool) (label : ℕ → ℕ) → Upto G order K label (length order) → KeptAlong G order K
-upto_all G order K label u = record { only = u.only; each = u.each }
-
 module _ (G : Graph) (bounded : (m : ℕ) → G.present m ≡ true → m < G.links) (order : List ℕ) (K K' : ℕ → Bool) (label label' : ℕ → ℕ)
     (i : ℕ) (u : Upto G order K label i) where
   abbrev n : ℕ

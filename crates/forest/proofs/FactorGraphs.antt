@@ -21,7 +21,7 @@ module _ (l : Layout) where
       (cases_lt (n / 4) (length (scopes_of l)))
 
   pub left_known : (n : ℕ) → (layout_graph l).present n ≡ true → (layout_graph l).left n < length (domains_of l)
-  left_known n there = omega (arith, l.lengths.0, l.known (n / 4) (omega (arith, present_below n there)) (n % 4) (place n there))
+  left_known n there = omega (arith, l.known (n / 4) (omega (arith, present_below n there)) (n % 4) (place n there))
 
   pub layout_whole : Whole (layout_graph l)
   layout_whole = record {

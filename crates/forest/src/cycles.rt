@@ -5,22 +5,16 @@ ghost use Rattle.theory.specs.Kept.{kept_at};
 ghost use Rattle.forest.specs.FactorGraph.{layout_graph};
 ghost use Rattle.forest.specs.Along.{KeptByNumber};
 
+use crate::ends::is_link;
 use crate::keeping::{keep_in_order, numbers};
-use crate::links::{END, Links};
+use crate::links::{LINKS, Links};
 use layout::Layout;
 
 // The links that are kept in the order of their numbers.
 fn kept_by_number(layout: &Layout) -> Links
     ensures { KeptByNumber (layout_graph layout.now) (kept_at result.words) }
 {
-    keep_in_order(layout, &numbers::<END>())
-}
-
-// Whether there is a link of this number.
-pub fn is_link(layout: &Layout, link: usize) -> bool
-    ensures { result ≡ (layout_graph layout.now).present link }
-{
-    link % 4 < layout.scope(link / 4).len()
+    keep_in_order(layout, &numbers::<LINKS>())
 }
 
 // Whether these leave out some link, which then closes a cycle.
@@ -28,12 +22,7 @@ fn leaves_out(layout: &Layout, links: &Links) -> bool
     requires { KeptByNumber (layout_graph layout.now) (kept_at links.now.words) }
     ensures { Decides result (Cycle (layout_graph layout.now) every) }
 {
-    for link in 0..END {
-        if is_link(layout, link) && !links.holds(link) {
-            return true;
-        }
-    }
-    false
+    (0..LINKS).any(|link| is_link(layout, link) && !links.holds(link))
 }
 
 // Whether the links of the layout form a cycle.

@@ -5,11 +5,10 @@ ghost use Rattle.forest.specs.FactorGraph.{layout_graph, Leads};
 ghost use Rattle.forest.specs.Along.{KeptAlong, SortedKeeps};
 ghost use Rattle.forest.specs.Labelled.{label_in, relabel, Considered};
 
+use crate::ends::{NODES, ends};
 use crate::links::Links;
 use layout::Layout;
-
-// There are at most 64 variables and 64 functions.
-const NODES: usize = 128;
+use std::array;
 
 // The links kept so far, and for each node the lowest node that they join it to.
 #[derive(Clone, Copy)]
@@ -18,72 +17,52 @@ struct Parts {
     labels: [usize; NODES],
 }
 
-// The variable and the function of a link, as nodes; none where there is no such link.
-fn ends(layout: &Layout, link: usize) -> Option<(usize, usize)>
-    ensures ends { MatchOption result ((layout_graph layout.now).present link ≡ false) (λ e. Leads (layout_graph layout.now) link e.0 e.1) }
-    ensures within { IfSome result (λ e. (link < 256) × (e.0 < 128) × (e.1 < 128)) }
-{
-    let scope = layout.scope(link / 4);
-    if link % 4 < scope.len() {
-        Some((scope[link % 4] as usize, layout.domains().len() + link / 4))
-    } else {
-        None
-    }
-}
-
 // Each number at its own position.
 pub(crate) fn numbers<const N: usize>() -> [usize; N]
     ensures { (n : ℕ) → slice_index_or result n n ≡ n }
 {
-    let mut numbers = [0; N];
-    for n in 0..N {
-        numbers[n] = n;
-    }
-    numbers
+    array::from_fn(|n| n)
 }
 
-// The label `low` in place of each label `high`.
-fn relabelled(mut labels: [usize; NODES], low: usize, high: usize) -> [usize; NODES]
+// The label `low` in place of the label `high`.
+fn relabel(low: usize, high: usize, label: usize) -> usize
+    ensures { result ≡ relabel low high label }
+{
+    if label == high { low } else { label }
+}
+
+// The same of each label.
+fn relabelled(labels: [usize; NODES], low: usize, high: usize) -> [usize; NODES]
     requires { high < 128 }
     ensures { (a : ℕ) → label_in result a ≡ relabel low high (label_in labels a) }
 {
-    for node in 0..NODES {
-        if labels[node] == high {
-            labels[node] = low;
-        }
-    }
-    labels
+    labels.map(|label| relabel(low, high, label))
 }
 
 impl Parts {
     // Keeps a link between two parts.
-    fn merged(mut self, link: usize, low: usize, high: usize) -> Parts
+    fn merge(&mut self, link: usize, low: usize, high: usize)
         requires link { link < 256 }
         requires high { high < 128 }
-        ensures kept { (m : ℕ) → kept_at result.kept.words m ≡ (m == link || kept_at self.kept.words m) }
-        ensures labels { (a : ℕ) → label_in result.labels a ≡ relabel low high (label_in self.labels a) }
+        ensures kept { (m : ℕ) → kept_at self.new.kept.words m ≡ (m == link || kept_at self.old.kept.words m) }
+        ensures labels { (a : ℕ) → label_in self.new.labels a ≡ relabel low high (label_in self.old.labels a) }
     {
         self.kept.keep(link);
         self.labels = relabelled(self.labels, low, high);
-        self
     }
 
     // Keeps a link if its ends are in different parts.
-    fn consider(self, layout: &Layout, link: usize) -> Parts
-        requires { (a : ℕ) → label_in self.labels a ≤ a }
-        ensures { Considered (layout_graph layout.now) link (kept_at self.kept.words) (kept_at result.kept.words) (label_in self.labels) (label_in result.labels) }
+    fn consider(&mut self, layout: &Layout, link: usize)
+        requires { (a : ℕ) → label_in self.old.labels a ≤ a }
+        ensures { Considered (layout_graph layout.now) link (kept_at self.old.kept.words) (kept_at self.new.kept.words) (label_in self.old.labels) (label_in self.new.labels) }
     {
         let Some((left, right)) = ends(layout, link) else {
-            return self;
+            return;
         };
         let a = self.labels[left];
         let b = self.labels[right];
-        if a < b {
-            self.merged(link, a, b)
-        } else if b < a {
-            self.merged(link, b, a)
-        } else {
-            self
+        if a != b {
+            self.merge(link, a.min(b), a.max(b));
         }
     }
 }
@@ -97,7 +76,7 @@ fn parts_along(layout: &Layout, order: &[usize]) -> Parts
         labels: numbers(),
     };
     for link in order {
-        parts = parts.consider(layout, *link);
+        parts.consider(layout, *link);
     }
     parts
 }
@@ -110,8 +89,6 @@ pub fn keep_in_order(layout: &Layout, order: &[usize]) -> Links
 }
 
 // Along the order of their weights, the links are kept that the rule keeps.
-pub fn kept_by_rule<E>() -> u8
+pub fn kept_by_rule<E>()
     ensures { SortedKeeps E }
-{
-    0
-}
+{}

@@ -2,9 +2,11 @@
 #![tactic(auto)]
 
 mod cycles;
+mod ends;
 mod keeping;
 mod links;
 
-pub use cycles::{has_cycle, is_link};
+pub use cycles::has_cycle;
+pub use ends::{NODES, is_link, variable_of};
 pub use keeping::{keep_in_order, kept_by_rule};
-pub use links::Links;
+pub use links::{LINKS, Links};

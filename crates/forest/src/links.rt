@@ -3,8 +3,10 @@ ghost use Rattle.std.specs.Prelude.{◌≡◌, ℕ, ◌*◌, ◌/◌, ◌<◌, �
 ghost use Rattle.theory.specs.Joins.{count_below};
 ghost use Rattle.theory.specs.Kept.{bit, kept_at};
 
-// Links have numbers below this.
-pub(crate) const END: usize = 256;
+use layout::{MOST_FUNCTIONS, MOST_PLACES};
+
+// Links have numbers below this: link 4 * f + p is place p of the function f, and there are at most 64 functions.
+pub const LINKS: usize = MOST_PLACES * MOST_FUNCTIONS;
 
 #[derive(Clone, Copy)]
 pub struct Links {
@@ -24,11 +26,7 @@ fn count_bits(words: &[u64]) -> u32
     requires { length words.now ≤ 4 }
     ensures { result ≡ count_below (kept_at words.now) (64 * length words.now) }
 {
-    let mut count = 0;
-    for word in words {
-        count += word.count_ones();
-    }
-    count
+    words.iter().map(|word| word.count_ones()).sum()
 }
 
 impl Links {
@@ -43,7 +41,7 @@ impl Links {
     fn word(&self, link: usize) -> u64
         ensures { result ≡ slice_index self.now.words (link / 64) }
     {
-        if link < END { self.words[link / 64] } else { 0 }
+        self.words.get(link / 64).copied().unwrap_or(0)
     }
 
     // Whether a link is in the set; no number from 256 on is.
@@ -65,7 +63,7 @@ impl Links {
         ensures within { link < 256 → (n : ℕ) → kept_at self.new.words n ≡ (n == link || kept_at self.old.words n) }
         ensures beyond { 256 ≤ link → (n : ℕ) → kept_at self.new.words n ≡ kept_at self.old.words n }
     {
-        if link < END {
+        if link < LINKS {
             self.put(link);
         }
     }

@@ -17,7 +17,7 @@ mod order;
 fn kept_along<V: Scale>(layout: &Layout, weights: &[V]) -> Links
     ensures { KeptByWeight V.Scale.rules (layout_graph layout.now) (weight_of V.Scale.rules V.Scale.means weights.now) (kept_at result.words) }
 {
-    keep_in_order(layout, by_weight(layout, weights).list())
+    keep_in_order(layout, &by_weight(weights))
 }
 
 // Considers the links from the heaviest, the lowest number first among equals, and keeps each that closes no cycle with those kept.

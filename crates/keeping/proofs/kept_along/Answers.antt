@@ -1,13 +1,14 @@
+use Rattle.std.proofs.Common.{arith}
 use Rattle.theory.specs.Kept.{kept_at}
 use Rattle.theory.proofs.Orders.{before_order}
 use Rattle.theory.proofs.Kept.{kept_clears, kept_joins}
 use Rattle.theory.proofs.LeftOut.{left_out_count}
 use Rattle.theory.proofs.Weighed.{lightest_set}
+use Rattle.layout.proofs.Shapes.{few_functions}
 use Rattle.forest.specs.FactorGraph.{layout_graph}
 use Rattle.forest.proofs.FactorGraphs.{layout_whole}
 use Rattle.forest.proofs.Sorted.{kept_by_order}
 use Rattle.keeping.proofs.EachFunction.{function_kept}
-use Rattle.keeping.specs.ByWeight.{ByWeight}
 use Rattle.keeping.specs.Weights.{weight_of}
 use Rattle.keeping.proofs.kept_along.Goals as goal
 
@@ -17,17 +18,18 @@ returns g c =
     let laws = g.met.V.Scale.laws in
     let w = weight_of m.rules m.means c.args.weights.now in
     let strict = before_order laws w in
-    let G = layout_graph c.args.layout.now in
-    let whole = layout_whole c.args.layout.now in
+    let l = c.args.layout.now in
+    let G = layout_graph l in
+    let whole = layout_whole l in
     let K = kept_at c.keep_in_order.result.words in
     let along = c.keep_in_order.ensures in
-    let order : ByWeight m.rules.leq w G c.list.result.now = rw c.list.ensures c.by_weight.ensures in
-    let keeps = kept_by_order G strict _ order.complete order.ordered K along in
+    let order = c.by_weight.ensures in
+    let keeps = kept_by_order G strict _ (λ n below there. order.complete n (omega (arith, below, few_functions l))) order.ordered K along in
     record {
       only = λ n e. (along.only n e).0;
       keeps = keeps;
       clears = kept_clears whole strict K keeps;
-      each = λ n u. function_kept c.args.layout.now K (kept_joins whole strict K keeps) n u;
+      each = λ n u. function_kept l K (kept_joins whole strict K keeps) n u;
       joins = kept_joins whole strict K keeps;
       lightest = λ positive C clears. lightest_set m.rules laws G whole w positive K keeps C clears;
       left_out = left_out_count whole strict K keeps;

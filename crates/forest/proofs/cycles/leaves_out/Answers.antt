@@ -1,31 +1,33 @@
-use Rattle.std.proofs.Common.{sym, refl, arith, below_more}
+use Rattle.std.proofs.Common.{◌≡◌, ℕ, ◌<◌, Bool, true, false, get_or, Decides, MatchBool, refl, ◌∙◌, subst, zero-add, arith, rules}
+use Rattle.std.specs.List.{range_with_len}
 use Rattle.std.proofs.lemmas.Bool.{both_ways}
+use Rattle.std.proofs.lemmas.Iterator.{YieldsList-from_range, cases_from_any}
+use Rattle.std.proofs.lemmas.List.FromFn.{get_or-range_with_len}
 use Rattle.theory.specs.Kept.{kept_at}
+use Rattle.layout.proofs.Shapes.{few_functions}
 use Rattle.forest.specs.FactorGraph.{layout_graph}
 use Rattle.forest.proofs.FactorGraphs.{present_below, layout_whole}
 use Rattle.forest.proofs.LeftOut.{cycle_if_out, none_if_all}
 use Rattle.forest.proofs.cycles.leaves_out.Goals as goal
-use Rattle.forest.proofs.cycles.leaves_out.Goals.{else-is_link-via-then-is_link+else-not-holds, else-is_link-via-else-is_link}
 
-pub returns-then-not-holds : goal.returns-then-not-holds
-returns-then-not-holds c =
-    let l = c.args.layout.now in
-    let n = c.loop-link.link in
-    let there = sym c.if-is_link.ensures in (
-      λ _. cycle_if_out (layout_graph l) (layout_whole l) (kept_at c.args.links.now.words) c.requires n (present_below l n there) there (sym c.if-not-holds.ensures),
-      λ _. refl,
-    )
-
-pub loop-link-preserved : goal.loop-link-preserved
-loop-link-preserved c = below_more _ _ c.loop-link.invariant (λ there. elim c.else-is_link.branch [
-  | else-is_link-via-then-is_link+else-not-holds w ↦ sym w.if-not-holds.ensures
-  | else-is_link-via-else-is_link w ↦ absurd (both_ways _ (sym w.if-is_link.ensures) there)
-])
+told : {P N C : Type 0} → (P → C) → (N → C → ⊥) → (r : Bool) → MatchBool r P N → Decides r C
+told in_some in_all true h = (λ _. in_some h, λ _. refl)
+told in_some in_all false h = (λ e. absurd (both_ways false refl e), λ x. absurd (in_all h x))
 
 pub returns : goal.returns
 returns c =
-    let l = c.args.layout.now in (
-      λ e. absurd (both_ways _ refl e),
-      λ cycle. absurd (none_if_all (layout_graph l) (layout_whole l) (kept_at c.args.links.now.words) c.requires
-          (λ n there. c.loop-link.invariant n (omega (arith, present_below l n there, l.lengths.1, l.counts.1)) there) cycle),
-    )
+    let l = c.args.layout.now in
+    let G = layout_graph l in
+    let K = kept_at c.args.links.now.words in
+    told
+    (λ some.
+    let n = get_or (range_with_len 0 256) some.0 0 in
+    let out : (G.present n ≡ true) × (K n ≡ false) = some.2 0 in
+    cycle_if_out G (layout_whole l) K c.requires n (present_below l n out.0) out.0 out.1)
+    (λ all. none_if_all G (layout_whole l) K c.requires (λ n there.
+    let small : n < 256 = omega (arith, present_below l n there, few_functions l) in
+    let at : G.present (get_or (range_with_len 0 256) n 0) ≡ true → K (get_or (range_with_len 0 256) n 0) ≡ true = all n 0 (omega arith) small in
+    subst (λ (m : ℕ). G.present m ≡ true → K m ≡ true) (get_or-range_with_len 0 256 n 0 small ∙ zero-add n) at there))
+    c.any.result
+    (cases_from_any _ _ _ (λ n. (G.present n ≡ true) × (K n ≡ false)) (λ n. G.present n ≡ true → K n ≡ true) c.any.ensures.ran
+    (YieldsList-from_range 0 256 256 refl refl) (λ n q k. search rules) (λ n q k. search rules))

@@ -6,4 +6,4 @@ pub loop-link-init : goal.loop-link-init
 loop-link-init c = upto_none _ _ _ _ c.none.ensures c.numbers.ensures
 
 pub loop-link-preserved : goal.loop-link-preserved
-loop-link-preserved c = upto_more _ (present_below c.args.layout.now) _ _ _ _ _ _ c.loop-link.invariant c.consider-parts.ensures
+loop-link-preserved c = upto_more _ (present_below c.args.layout.now) _ _ _ _ _ _ c.loop-link.invariant c.consider.ensures
