@@ -1,5 +1,5 @@
 -- How hanging one node after another adds up. Assumes nothing.
-use Rattle.std.proofs.Common.{◌≡◌, ℕ, ◌+◌, Bool, true, false, length, None, sym, refl, ap, ◌∙◌, subst, ⊎_elim, arith}
+use Rattle.std.proofs.Common.{◌≡◌, ℕ, ◌+◌, Bool, true, false, length, None, is_some, sym, refl, ap, ◌∙◌, subst, ⊎_elim, arith}
 use Rattle.std.proofs.lemmas.Bool.{both_ways, cases_Bool}
 use Rattle.theory.specs.Graphs.{Joined}
 use Rattle.theory.proofs.Walks.{joined_trans, joined_sym, link_joins}
@@ -40,7 +40,7 @@ module _ (l : Layout) (K : ℕ → Bool) where
   module _ {a : Node} {s t : Hung} (g : Grows l K a s t) where
     pub stays : (b : Node) → hung_node s b ≡ true → hung_node t b ≡ true
     stays (node.Variable v) h = ap (λ x. x.hung) (g.variables v h) ∙ h
-    stays (node.Function f) h = ap (λ x. x.hung) (g.functions f h) ∙ h
+    stays (node.Function f) h = ap (λ x. is_some x.parent) (g.functions f h) ∙ h
 
   module _ {a : Node} {s t u : Hung} (g : Grows l K a s t) (h : Grows l K a t u) where
     pub grows_then : Grows l K a s u
@@ -82,7 +82,7 @@ module _ (l : Layout) (K : ℕ → Bool) where
     pub grows_child : Grows l K a s t
     grows_child = record {
       variables = λ v e. h.grows.variables v (ap (λ r. r.hung) (marked.variables v e) ∙ e) ∙ marked.variables v e;
-      functions = λ f e. h.grows.functions f (ap (λ r. r.hung) (marked.functions f e) ∙ e) ∙ marked.functions f e;
+      functions = λ f e. h.grows.functions f (ap (λ x. is_some x.parent) (marked.functions f e) ∙ e) ∙ marked.functions f e;
       inner = child_inner;
       around = child_around;
       joined = child_joined;

@@ -1,20 +1,24 @@
 -- The parts are hung one after another. Assumes nothing.
-use Rattle.std.proofs.Common.{◌≡◌, ℕ, zero, suc, ◌+◌, ◌/◌, ◌<◌, ◌≤◌, Bool, true, false, length, get_or, replicate, Some, None, Option, sym, refl, ap, ◌∙◌, subst, ⊎_elim, arith, below_more}
+use Rattle.std.proofs.Common.{◌≡◌, ℕ, zero, suc, ◌+◌, ◌/◌, ◌<◌, ◌≤◌, Bool, true, false, length, get_or, replicate, Some, None, Option, is_some, unwrap_or, sym, refl, ap, ap₂, count_by, not, ◌∙◌, subst, ⊎_elim, arith, below_more}
+use Rattle.std.proofs.lemmas.Option.{none-some}
 use Rattle.std.proofs.lemmas.Bool.{both_ways, cases_Bool, cases_lt}
 use Rattle.theory.specs.Graphs.{Joined, stay, along, back}
 use Rattle.theory.proofs.Walks.{joined_sym}
 use Rattle.layout.specs.declared.layout.Layout.{Layout}
 use Rattle.layout.specs.View.{domains_of}
+use Rattle.layout.proofs.Shapes.{few_variables}
 use Rattle.forest.specs.FactorGraph.{layout_graph}
 use Rattle.hanging.specs.declared.hung.Hung.{Hung}
+use Rattle.hanging.specs.declared.node.Variable.{Variable}
+use Rattle.hanging.specs.declared.node.Function.{Function}
 use Rattle.hanging.specs.declared.node.Node.{Node}
 use Rattle.hanging.specs.declared.node.Node.TheVariants as node
-use Rattle.hanging.specs.Hung.{no_variable, no_function, variable_at, function_at, hung_node, none_hung, with_variable}
+use Rattle.hanging.specs.Hung.{no_variable, no_function, variable_at, function_at, count_of, hung_node, loose, NoneHung}
 use Rattle.hanging.specs.Kept.{Linked, Neighbours, Reaches}
-use Rattle.hanging.specs.Growing.{Sound, Hangs, FreeVariable}
+use Rattle.hanging.specs.Growing.{Sound, Hangs, HangsVariable, FreeVariable}
 use Rattle.hanging.proofs.Marking.{Marked, own_variable, marks_variable, stays_marked}
 use Rattle.hanging.proofs.Growing.{stays}
-use Rattle.hanging.proofs.Turns.{some_none, variable_same, left_known}
+use Rattle.hanging.proofs.Turns.{variable_same, left_known}
 
 -- The parts with a variable below i are hung, each whole and from its lowest variable.
 pub record PartsHung (l : Layout) (K : ℕ → Bool) (s : Hung) (i : ℕ) : Type 0 where
@@ -35,22 +39,33 @@ pub by_parent : {G : Type 0} (o : Option ℕ) → (o ≡ None → G) → ((f : �
 by_parent None none some = none refl
 by_parent (Some f) none some = some f refl
 
-none_is_hung : (b : Node) → hung_node none_hung b ≡ false
-none_is_hung (node.Variable v) = ap (λ x. x.hung) (repeated 64 v no_variable)
-none_is_hung (node.Function f) = ap (λ x. x.hung) (repeated 64 f no_function)
+pub placed : (o : Option ℕ) → is_some o ≡ true → o ≡ Some (unwrap_or o 0)
+placed None h = absurd (both_ways false refl h)
+placed (Some p) h = refl
 
-module _ (l : Layout) (K : ℕ → Bool) where
-  free_now : {G : Type 0} (b : Node) → hung_node none_hung b ≡ true → G
-  free_now b h = absurd (both_ways (hung_node none_hung b) (none_is_hung b) h)
+module _ {s : Hung} (none : NoneHung s) where
+  none_is_hung : (b : Node) → hung_node s b ≡ false
+  none_is_hung (node.Variable v) = ap (λ xs. (get_or xs v no_variable).hung) none.variables ∙ ap (λ x. x.hung) (repeated 64 v no_variable)
+  none_is_hung (node.Function f) = ap (λ xs. is_some (get_or xs f no_function).parent) none.functions ∙ ap (λ x. is_some x.parent) (repeated 64 f no_function)
 
-  pub parts_none : PartsHung l K none_hung 0
-  parts_none = record {
+  free_now : {G : Type 0} (b : Node) → hung_node s b ≡ true → G
+  free_now b h = absurd (both_ways (hung_node s b) (none_is_hung b) h)
+
+  all_loose : loose s + count_of s ≡ 128
+  all_loose =
+      ap₂ ◌+◌ (ap₂ ◌+◌ (ap (count_by (λ (x : Variable). not x.hung)) none.variables) (ap (count_by (λ (x : Function). not (is_some x.parent))) none.functions)) (ap length none.order)
+
+  no_position : {G : Type 0} (i : ℕ) → i < count_of s → G
+  no_position i h = let few : count_of s ≡ 0 = ap length none.order in absurd (omega arith)
+
+  pub parts_none : (l : Layout) (K : ℕ → Bool) → PartsHung l K s 0
+  parts_none l K = record {
     sound = record {
-      sizes = (refl, refl, refl);
-      room = refl;
-      listed = record { each = λ b h. free_now b h; only = λ i h. absurd (omega arith); once = λ i j lt h. absurd (omega arith) };
+      sizes = (ap length none.variables, ap length none.functions);
+      room = all_loose;
+      listed = record { each = λ b h. free_now b h; only = λ i h. no_position i h; once = λ i j lt h. no_position j h };
       below = λ v f h. free_now (node.Variable v) h;
-      under = λ f h. free_now (node.Function f) h;
+      under = λ f p e. free_now (node.Function f) (ap is_some e);
     };
     first = λ v h. absurd (omega arith);
     around = λ a b h. free_now a h;
@@ -59,17 +74,18 @@ module _ (l : Layout) (K : ℕ → Bool) where
     inner = λ v f h. free_now (node.Variable v) h;
   }
 
+module _ (l : Layout) (K : ℕ → Bool) where
   -- Walks do not leave what is hung.
   module _ {s : Hung} {i : ℕ} (inv : PartsHung l K s i) where
     -- whichever node has the number is hung
     abbrev HungAt : ℕ → Type 0
-    HungAt a = ((v : ℕ) → v < length (domains_of l) → v ≡ a → (variable_at s v).hung ≡ true) × ((f : ℕ) → length (domains_of l) + f ≡ a → (function_at s f).hung ≡ true)
+    HungAt a = ((v : ℕ) → v < length (domains_of l) → v ≡ a → (variable_at s v).hung ≡ true) × ((f : ℕ) → length (domains_of l) + f ≡ a → is_some (function_at s f).parent ≡ true)
 
     at_variable : (v : ℕ) → v < length (domains_of l) → (variable_at s v).hung ≡ true → HungAt v
     at_variable v small h = (λ w _ e. subst (λ x. (variable_at s x).hung ≡ true) (sym e) h, λ f e. absurd (omega arith))
 
-    at_function : (f : ℕ) → (function_at s f).hung ≡ true → HungAt (length (domains_of l) + f)
-    at_function f h = (λ v lt e. absurd (omega arith), λ g e. let same : g ≡ f = omega arith in subst (λ x. (function_at s x).hung ≡ true) (sym same) h)
+    at_function : (f : ℕ) → is_some (function_at s f).parent ≡ true → HungAt (length (domains_of l) + f)
+    at_function f h = (λ v lt e. absurd (omega arith), λ g e. let same : g ≡ f = omega arith in subst (λ x. is_some (function_at s x).parent ≡ true) (sym same) h)
 
     carried : {a b : ℕ} → Joined (layout_graph l) K a b → HungAt a → HungAt b
     carried stay h = h
@@ -90,15 +106,21 @@ module _ (l : Layout) (K : ℕ → Bool) where
   module _ {s : Hung} (v : ℕ) (inv : PartsHung l K s v) (small : v < length (domains_of l)) (loose : (variable_at s v).hung ≡ false) where
     pub root_free : FreeVariable l K s v None
     root_free = record {
-      within = omega (arith, l.lengths.0, l.counts.0);
+      within = omega (arith, few_variables l);
       loose = loose;
-      linked = λ f e. absurd (some_none f (sym e));
-      above = λ f e. absurd (some_none f (sym e));
+      linked = λ f e. absurd (none-some f e);
+      above = λ f e. absurd (none-some f e);
     }
 
-    module _ {t : Hung} (h : Hangs l K (node.Variable v) (with_variable s v None) t) where
-      marked : Marked s (with_variable s v None) (node.Variable v)
-      marked = marks_variable l K inv.sound v None root_free
+    module _ {t : Hung} (hangs : HangsVariable l K s v None t) where
+      abbrev m : Hung
+      m = hangs.0
+
+      abbrev h : Hangs l K (node.Variable v) m t
+      h = hangs.2
+
+      marked : Marked s m (node.Variable v)
+      marked = marks_variable l K inv.sound root_free hangs.1
 
       still : (b : Node) → hung_node s b ≡ true → hung_node t b ≡ true
       still b e = stays l K h.grows b (stays_marked marked b e)
@@ -109,7 +131,7 @@ module _ (l : Layout) (K : ℕ → Bool) where
       top : (variable_at t v).parent ≡ None
       top =
           let lt : v < length s.variables = omega (arith, root_free.within, inv.sound.sizes.0) in
-          ap (λ x. x.parent) (h.grows.variables v marked.hung ∙ own_variable s v None lt loose)
+          ap (λ x. x.parent) (h.grows.variables v marked.hung ∙ own_variable hangs.1 lt loose)
 
       lowest : (u : ℕ) → u < v → Reaches l K (node.Variable v) (node.Variable u) → ⊥
       lowest u lt j =
@@ -118,11 +140,11 @@ module _ (l : Layout) (K : ℕ → Bool) where
 
       -- a variable that is hung now was hung before, is the root of this part, or hangs below it
       cases : {G : Type 0} (w : ℕ) → (variable_at t w).hung ≡ true → ((variable_at s w).hung ≡ true → G) → (w ≡ v → G)
-          → (v < w → (variable_at (with_variable s v None) w).hung ≡ false → G) → G
+          → (v < w → (variable_at m w).hung ≡ false → G) → G
       cases w y before here after = ⊎_elim before
           (λ (x : (variable_at s w).hung ≡ false). ⊎_elim
           (λ (e : node.Variable w ≡ node.Variable v). here (variable_same w v e))
-          (λ (e : (variable_at (with_variable s v None) w).hung ≡ (variable_at s w).hung). ⊎_elim
+          (λ (e : (variable_at m w).hung ≡ (variable_at s w).hung). ⊎_elim
           (λ (lt : w < v). absurd (both_ways (variable_at s w).hung x (inv.first w lt)))
           (λ (le : v ≤ w). ⊎_elim (λ (lt : v < w). after lt (e ∙ x)) (λ (ge : w ≤ v). here (omega arith)) (cases_lt v w))
           (cases_lt w v))
@@ -133,7 +155,7 @@ module _ (l : Layout) (K : ℕ → Bool) where
       around a b y k = ⊎_elim (λ (x : hung_node s a ≡ true). still b (inv.around a b x k))
           (λ (x : hung_node s a ≡ false). ⊎_elim
           (λ (e : a ≡ node.Variable v). h.around b (subst (λ c. Neighbours l K c b) e k))
-          (λ (e : hung_node (with_variable s v None) a ≡ hung_node s a). h.grows.around a b (e ∙ x) y k)
+          (λ (e : hung_node m a ≡ hung_node s a). h.grows.around a b (e ∙ x) y k)
           (marked.others a))
           (cases_Bool (hung_node s a))
 
@@ -151,7 +173,7 @@ module _ (l : Layout) (K : ℕ → Bool) where
       inner : (w f : ℕ) → (variable_at t w).hung ≡ true → (variable_at t w).parent ≡ Some f → (u : ℕ) × (u < w) × Reaches l K (node.Variable w) (node.Variable u)
       inner w f y some = cases w y
           (λ x. inv.inner w f x (sym (ap (λ r. r.parent) (old w x)) ∙ some))
-          (λ e. absurd (some_none f (sym some ∙ ap (λ z. (variable_at t z).parent) e ∙ top)))
+          (λ e. absurd (none-some f (sym top ∙ sym (ap (λ z. (variable_at t z).parent) e) ∙ some)))
           (λ lt x. (v, lt, joined_sym (h.grows.joined (node.Variable w) x y)))
 
       pub part_hung : PartsHung l K t (v + 1)

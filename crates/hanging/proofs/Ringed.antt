@@ -1,5 +1,5 @@
 -- A kept link by which no node hangs closes a cycle of kept links. Assumes nothing.
-use Rattle.std.proofs.Common.{◌≡◌, ℕ, zero, suc, ◌+◌, ◌*◌, ◌/◌, ◌<◌, Bool, true, length, Some, None, sym, ap, ◌∙◌, subst, ⊎_elim, arith}
+use Rattle.std.proofs.Common.{◌≡◌, ℕ, zero, suc, ◌+◌, ◌*◌, ◌/◌, ◌%◌, ◌<◌, Bool, true, length, Some, None, is_some, sym, ap, ◌∙◌, subst, ⊎_elim, arith}
 use Rattle.std.proofs.lemmas.Bool.{cases_order}
 use Rattle.theory.specs.Graphs.{Uses, Joined, Cycle, along, back, stay, without}
 use Rattle.theory.proofs.Sets.{without_within, uses_other}
@@ -10,10 +10,10 @@ use Rattle.forest.specs.FactorGraph.{layout_graph}
 use Rattle.hanging.specs.declared.hung.Hung.{Hung}
 use Rattle.hanging.specs.declared.node.Node.{Node}
 use Rattle.hanging.specs.declared.node.Node.TheVariants as node
-use Rattle.hanging.specs.Hung.{variable_at, function_at, hung_node}
+use Rattle.hanging.specs.Hung.{variable_at, function_at, place_of, hung_node}
 use Rattle.hanging.specs.Kept.{number, Kept, Linked}
 use Rattle.hanging.specs.Growing.{Stands, Listed}
-use Rattle.hanging.proofs.Parts.{PartsHung, by_parent}
+use Rattle.hanging.proofs.Parts.{PartsHung, by_parent, placed}
 
 -- A node stands at one position.
 pub one_position : {s : Hung} → Listed s → (i j : ℕ) (b : Node) → Stands s i b → Stands s j b → i ≡ j
@@ -25,7 +25,7 @@ one_position listed i j b x y = ⊎_elim (λ e. e)
 
 -- n is a link by which no node hangs.
 module _ (l : Layout) (K : ℕ → Bool) {s : Hung} {i : ℕ} (parts : PartsHung l K s i) (n : ℕ) (kept : Kept l K n)
-    (no_function : 4 * (n / 4) + (function_at s (n / 4)).parent ≡ n → ⊥)
+    (no_function : (function_at s (n / 4)).parent ≡ Some (n % 4) → ⊥)
     (no_variable : (variable_at s ((layout_graph l).left n)).parent ≡ Some (n / 4) → ⊥) where
   -- The other links join a to a root.
   record Rooted (a : ℕ) : Type 0 where
@@ -46,12 +46,12 @@ module _ (l : Layout) (K : ℕ → Bool) {s : Hung} {i : ℕ} (parts : PartsHung
       ap (λ w. (variable_at s w).parent) (sym (ap (λ m. (layout_graph l).left m) same) ∙ k.variable) ∙ e ∙ ap Some (sym k.function ∙ ap (λ m. m / 4) same)) in
       beyond (along k.link (other k.link k.kept ne) k.variable (at_once (ap (λ g. length (domains_of l) + g) k.function))) r
 
-  from_function : (f : ℕ) → (function_at s f).parent < 4 → Kept l K (4 * f + (function_at s f).parent) → Rooted ((layout_graph l).left (4 * f + (function_at s f).parent)) →
-      Rooted (length (domains_of l) + f)
-  from_function f lt k r =
-      let m = 4 * f + (function_at s f).parent in
+  from_function : (f p : ℕ) → (function_at s f).parent ≡ Some p → p < 4 → Kept l K (4 * f + p) → Rooted ((layout_graph l).left (4 * f + p)) → Rooted (length (domains_of l) + f)
+  from_function f p e lt k r =
+      let m = 4 * f + p in
       let quotient : m / 4 ≡ f = omega arith in
-      let ne : m ≡ n → ⊥ = λ same. no_function (ap (λ g. 4 * g + (function_at s g).parent) (sym (ap (λ x. x / 4) same) ∙ quotient) ∙ same) in
+      let rest : m % 4 ≡ p = omega arith in
+      let ne : m ≡ n → ⊥ = λ same. no_function (subst (λ x. (function_at s (x / 4)).parent ≡ Some (x % 4)) same (ap (λ g. (function_at s g).parent) quotient ∙ e ∙ ap Some (sym rest))) in
       beyond (back m (other m k ne) (ap (λ g. length (domains_of l) + g) quotient) stay) r
 
   -- Each hung node is joined to a root, by the position at which it stands.
@@ -64,16 +64,18 @@ module _ (l : Layout) (K : ℕ → Bool) {s : Hung} {i : ℕ} (parts : PartsHung
       let at = below.before in
       let same = one_position parts.sound.listed at.second j (node.Variable v) at.other st in
       let lt : at.first < k = omega (arith, at.less, same, h) in
-      let high : (function_at s f).hung ≡ true = subst (λ b. hung_node s b ≡ true) at.one.here (parts.sound.listed.only at.first at.one.within) in
+      let high : is_some (function_at s f).parent ≡ true = subst (λ b. hung_node s b ≡ true) at.one.here (parts.sound.listed.only at.first at.one.within) in
       from_variable v f some below.linked (rooted k at.first lt (node.Function f) at.one high))
   rooted (suc k) j h (node.Function f) st up =
-      let under = parts.sound.under f up in
+      let p = place_of s f in
+      let some = placed (function_at s f).parent up in
+      let under = parts.sound.under f p some in
       let at = under.before in
       let same = one_position parts.sound.listed at.second j (node.Function f) at.other st in
       let lt : at.first < k = omega (arith, at.less, same, h) in
-      let v = (layout_graph l).left (4 * f + (function_at s f).parent) in
+      let v = (layout_graph l).left (4 * f + p) in
       let high : (variable_at s v).hung ≡ true = subst (λ b. hung_node s b ≡ true) at.one.here (parts.sound.listed.only at.first at.one.within) in
-      from_function f under.place under.kept (rooted k at.first lt (node.Variable v) at.one high)
+      from_function f p some under.place under.kept (rooted k at.first lt (node.Variable v) at.one high)
 
   hung_rooted : (b : Node) → hung_node s b ≡ true → Rooted (number l b)
   hung_rooted b up = let at = parts.sound.listed.each b up in rooted (suc at.0) at.0 (omega arith) b at.1 up
@@ -85,7 +87,7 @@ module _ (l : Layout) (K : ℕ → Bool) {s : Hung} {i : ℕ} (parts : PartsHung
       (λ o. ⊎_elim (λ (lt : u < v). absurd (parts.root v hv nv u lt (joined_sym j))) (λ (lt : v < u). absurd (parts.root u hu nu v lt j)) o)
       (cases_order u v)
 
-  pub ringed : (variable_at s ((layout_graph l).left n)).hung ≡ true → (function_at s (n / 4)).hung ≡ true → Cycle (layout_graph l) K
+  pub ringed : (variable_at s ((layout_graph l).left n)).hung ≡ true → is_some (function_at s (n / 4)).parent ≡ true → Cycle (layout_graph l) K
   ringed left right =
       let a = hung_rooted (node.Variable ((layout_graph l).left n)) left in
       let b = hung_rooted (node.Function (n / 4)) right in

@@ -1,10 +1,9 @@
 -- A problem with the domains and scopes of a layout has its factor graph. Assumes nothing.
-use Rattle.std.proofs.Common.{◌≡◌, ℕ, zero, suc, ◌+◌, ◌*◌, ◌/◌, ◌%◌, ltb, List, [], ◌∷◌, map, length, get_or, sym, refl, ap, ◌∙◌}
+use Rattle.std.proofs.Common.{◌≡◌, ℕ, zero, suc, List, [], ◌∷◌, map, length, get_or, sym, refl, ap, ◌∙◌}
 use mathlib.Core.Path.{fun_ext}
 use Rattle.std.proofs.lemmas.List.{length-map}
-use Rattle.theory.specs.Problem.{Problem, Function, variables, functions, scope_of, at}
-use Rattle.theory.specs.Graphs.{Graph}
-use Rattle.theory.specs.Links.{graph}
+use Rattle.theory.specs.Problem.{Problem, Function, variables, functions, scope_of, arity, at}
+use Rattle.theory.specs.Links.{graph, factor_graph}
 use Rattle.layout.specs.declared.layout.Layout.{Layout}
 use Rattle.layout.specs.View.{domains_of, scopes_of, scope_in}
 use Rattle.forest.specs.FactorGraph.{layout_graph}
@@ -14,16 +13,6 @@ scope_at : (fs : List Function) (f : ℕ) → get_or (map (λ (g : Function). g.
 scope_at [] f = refl
 scope_at (g ∷ fs) zero = refl
 scope_at (g ∷ fs) (suc f) = scope_at fs f
-
--- the factor graph of so many variables and functions, with these scopes
-abbrev graph_of : ℕ → ℕ → (ℕ → List ℕ) → Graph
-graph_of v f scope = record {
-  nodes = v + f;
-  links = 4 * f;
-  present = λ n. ltb (n % 4) (length (scope (n / 4)));
-  left = λ n. get_or (scope (n / 4)) (n % 4) 0;
-  right = λ n. v + n / 4;
-}
 
 module _ {l : Layout} {P : Problem} (shaped : Shaped l P) where
   pub same_variables : variables P ≡ length (domains_of l)
@@ -43,6 +32,6 @@ module _ {l : Layout} {P : Problem} (shaped : Shaped l P) where
   pub same_graph : graph P ≡ layout_graph l
   unfolding at
   same_graph =
-      ap (λ v. graph_of v (functions P) (scope_of P)) same_variables
-      ∙ ap (λ f. graph_of (length (domains_of l)) f (scope_of P)) same_functions
-      ∙ ap (λ s. graph_of (length (domains_of l)) (length (scopes_of l)) s) (fun_ext same_scope)
+      ap (λ v. factor_graph v (functions P) (arity P) (at P)) same_variables
+      ∙ ap (λ f. factor_graph (length (domains_of l)) f (arity P) (at P)) same_functions
+      ∙ ap (λ (scope : ℕ → List ℕ). factor_graph (length (domains_of l)) (length (scopes_of l)) (λ f. length (scope f)) (λ f p. get_or (scope f) p 0)) (fun_ext same_scope)

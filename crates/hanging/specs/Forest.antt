@@ -1,5 +1,5 @@
 -- The forest of the kept links, all hung. Assumes nothing.
-use Rattle.std.specs.Prelude.{◌≡◌, ℕ, ◌<◌, ◌≤◌, Bool, true, map, Some, ◌≢◌}
+use Rattle.std.specs.Prelude.{◌≡◌, ℕ, ◌<◌, Bool, true, map, Some, ◌≢◌}
 use Rattle.theory.specs.Problem.{Problem, Function, Sound, variables, functions, arity}
 use Rattle.theory.specs.Graphs.{Cycle}
 use Rattle.theory.specs.Links.{link, graph}
@@ -9,7 +9,7 @@ use Rattle.layout.specs.View.{domains_of, scopes_of}
 use Rattle.hanging.specs.declared.hung.Hung.{Hung}
 use Rattle.hanging.specs.declared.node.Node.{Node}
 use Rattle.hanging.specs.declared.node.Node.TheVariants as node
-use Rattle.hanging.specs.Hung.{variable_at, function_at, node_at, hung_node}
+use Rattle.hanging.specs.Hung.{variable_at, place_of, count_of, node_at, hung_node}
 use Rattle.hanging.specs.Growing.{Stands, Before}
 
 -- The problem has the domains and scopes of the layout.
@@ -23,7 +23,7 @@ EachKept P kept = (f : ℕ) → f < functions P → (p : ℕ) × (p < arity P f)
 
 -- what each node hangs from, as it is written down
 abbrev pub hanging_of : Hung → Hanging
-hanging_of r = record { var_parent = λ v. (variable_at r v).parent; fun_parent = λ f. (function_at r f).parent }
+hanging_of r = record { var_parent = λ v. (variable_at r v).parent; fun_parent = place_of r }
 
 -- b is a node of the problem.
 abbrev pub Known : Problem → Node → Type 0
@@ -33,8 +33,8 @@ Known P (node.Function f) = f < functions P
 -- The order lists each node of the problem once, and each after the node that it hangs from.
 pub record InOrder (P : Problem) (r : Hung) : Type 0 where
   pub each : (b : Node) → Known P b → (i : ℕ) × Stands r i b
-  pub only : (i : ℕ) → i < r.count → Known P (node_at r i)
-  pub once : (i j : ℕ) → i < j → j < r.count → node_at r i ≢ node_at r j
+  pub only : (i : ℕ) → i < count_of r → Known P (node_at r i)
+  pub once : (i j : ℕ) → i < j → j < count_of r → node_at r i ≢ node_at r j
   pub below : (v f : ℕ) → v < variables P → (hanging_of r).var_parent v ≡ Some f → Before r (node.Function f) (node.Variable v)
   pub under : (f : ℕ) → f < functions P → Before r (node.Variable (above P (hanging_of r) f)) (node.Function f)
 
@@ -45,8 +45,6 @@ pub record SameHanging (P : Problem) (H H' : Hanging) : Type 0 where
 
 -- The forest of the kept links hangs in r: every node if each function has a kept link, and by every kept link if these form no cycle.
 pub record HangsForest (P : Problem) (kept : ℕ → Bool) (r : Hung) : Type 0 where
-  -- The positions of the order are below 128.
-  pub few : r.count ≤ 128
   pub lowest : LowestRoots P kept (hanging_of r)
   pub all : EachKept P kept → (b : Node) → Known P b → hung_node r b ≡ true
   pub order : EachKept P kept → InOrder P r

@@ -1,6 +1,7 @@
 // What is known of each node as the forest is hung.
 #[derive(Clone, Copy)]
 pub struct Variable {
+    // A root is hung and has no parent, so the parent alone does not tell.
     pub hung: bool,
     // The function that it hangs from; a root hangs from none.
     pub parent: Option<usize>,
@@ -8,9 +9,8 @@ pub struct Variable {
 
 #[derive(Clone, Copy)]
 pub struct Function {
-    pub hung: bool,
-    // The place by which it hangs from the variable there.
-    pub parent: usize,
+    // The place by which it hangs from the variable there; none until it hangs.
+    pub parent: Option<usize>,
 }
 
 // A variable or a function, by its number.

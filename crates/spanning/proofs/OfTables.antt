@@ -50,6 +50,5 @@ module _ (t : Tables) where
     well = hangs.well each clear;
     lowest = hangs.lowest;
     order = hangs.order each;
-    few = hangs.few;
     unique = hangs.unique each clear (within_sizes t).sound;
   }

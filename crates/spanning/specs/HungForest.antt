@@ -1,5 +1,5 @@
 -- All nodes of a problem, hung by the kept links. Assumes nothing.
-use Rattle.std.specs.Prelude.{ℕ, ◌≤◌, Bool}
+use Rattle.std.specs.Prelude.{ℕ, Bool}
 use Rattle.theory.specs.Problem.{Problem}
 use Rattle.theory.specs.Forest.{Hanging, WellHung, LowestRoots}
 use Rattle.hanging.specs.declared.hung.Hung.{Hung}
@@ -13,7 +13,5 @@ pub record HungForest (P : Problem) (kept : ℕ → Bool) (r : Hung) : Type 0 wh
   pub lowest : LowestRoots P kept (hanging_of r)
   -- The order lists each node once, after the one that it hangs from.
   pub order : InOrder P r
-  -- The positions of the order are below 128.
-  pub few : r.count ≤ 128
   -- It hangs so in no other way.
   pub unique : (H : Hanging) → WellHung P kept H → LowestRoots P kept H → SameHanging P H (hanging_of r)

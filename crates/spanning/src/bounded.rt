@@ -1,5 +1,6 @@
 // The links of a problem that are kept by their weights.
 ghost use Rattle.std.specs.Prelude.{◌≡◌, ℕ, ◌+◌, ◌<◌, ◌≤◌, false, slice_index_or};
+ghost use Rattle.board.specs.SameLent.{SameLent};
 ghost use Rattle.theory.specs.Cut.{Weights};
 ghost use Rattle.theory.specs.Kept.{kept_at};
 ghost use Rattle.theory.specs.Bounded.{Bounded};
@@ -11,14 +12,11 @@ ghost use Rattle.spanning.specs.LightestRemoved.{LightestRemoved};
 ghost use Rattle.spanning.specs.WeightCells.{weight_cells, OthersSame};
 
 use crate::spanned::{Forest, hung_by};
-use crate::weighing::{FIRST, weigh_links};
+use crate::weighing::{FIRST, ROWS, weigh_links};
 use board::Board;
 use keeping::keep_by_weight;
 use scale::Measuring;
 use tables::Tables;
-
-// How many rows of a board the weights have.
-const ROWS: usize = 16;
 
 // The forest of the links that are kept by the weights on the board.
 fn bounded_links<V: Measuring>(tables: &Tables, values: &Board<V>) -> Forest
@@ -44,8 +42,7 @@ pub fn bounded_forest<V: Measuring>(tables: &Tables, values: &mut Board<V>) -> F
     ensures lightest { LightestRemoved V.Scale.rules (problem_of tables.now) (weight_of V.Scale.rules V.Scale.means (weight_cells values.new.cells.now)) (kept_at result.kept.words) }
     ensures within { (n : ℕ) (d : V) → n < 256 → V.Scale.within 2 (slice_index_or values.new.cells.now (2048 + n) d) }
     ensures others { OthersSame values.old.cells.now values.new.cells.now }
-    ensures rows { values.new.rows ≡ values.old.rows }
-    ensures lent { values.new.cells.ghost_name ≡ values.old.cells.ghost_name }
+    ensures same { SameLent values.old values.new }
 {
     weigh_links(tables, values);
     bounded_links(tables, values)

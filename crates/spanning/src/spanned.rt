@@ -11,9 +11,6 @@ use forest::Links;
 use hanging::{Hung, hang};
 use tables::Tables;
 
-// Links have numbers below this: there are at most 64 functions with four places each.
-pub(crate) const LINKS: usize = 256;
-
 #[derive(Clone, Copy)]
 pub struct Forest {
     pub kept: Links,
@@ -25,7 +22,7 @@ pub(crate) fn hung_by(tables: &Tables, links: Links) -> Forest
     requires each { EachKept (problem_of tables.now) (kept_at links.words) }
     requires clear { Cycle (graph (problem_of tables.now)) (kept_at links.words) → ⊥ }
     ensures kept { result.kept ≡ links }
-    ensures hung { HungForest (problem_of tables.now) (kept_at links.words) result.hung }
+    ensures hung { HungForest (problem_of tables.now) (kept_at result.kept.words) result.hung }
 {
     Forest {
         kept: links,

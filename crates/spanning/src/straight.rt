@@ -7,8 +7,8 @@ ghost use Rattle.tables.specs.View.{problem_of};
 ghost use Rattle.forest.specs.FactorGraph.{layout_graph};
 ghost use Rattle.spanning.specs.HungForest.{HungForest};
 
-use crate::spanned::{Forest, LINKS, hung_by};
-use forest::{Links, has_cycle, is_link};
+use crate::spanned::{Forest, hung_by};
+use forest::{LINKS, Links, has_cycle, is_link};
 use layout::Layout;
 use tables::Tables;
 
@@ -17,6 +17,7 @@ fn all_links(layout: &Layout) -> Links
     ensures { (n : ℕ) → kept_at result.words n ≡ (layout_graph layout.now).present n }
 {
     let mut links = Links::none();
+    // By number: the number is the link.
     for link in 0..LINKS {
         if is_link(layout, link) {
             links.keep(link);

@@ -2,39 +2,26 @@
 ghost use Rattle.std.specs.Prelude.{Decides, MatchOption};
 ghost use Rattle.theory.specs.Problem.{Problem};
 ghost use Rattle.theory.specs.Kept.{kept_at};
-ghost use Rattle.hanging.specs.declared.node.Node.TheVariants as node;
-ghost use Rattle.hanging.specs.Hung.{with_variable, with_function};
 ghost use Rattle.hanging.specs.Kept.{Kept, LeadsTo};
-ghost use Rattle.hanging.specs.Growing.{Sound, Hangs, FreeVariable, FreeFunction};
+ghost use Rattle.hanging.specs.Growing.{Sound, HangsVariable, HangsFunction, FreeVariable, FreeFunction};
 ghost use Rattle.hanging.specs.Forest.{Shaped, HangsForest};
 
 use crate::hung::Hung;
-use forest::Links;
-use layout::Layout;
-
-// Links have numbers below this: link 4 * f + p is place p of the function f.
-const END: usize = 256;
+use forest::{LINKS, Links, variable_of};
+use layout::{Layout, MOST_PLACES};
 
 // The variable of a kept link; none where the link is not kept, or there is no such link.
 fn variable(layout: &Layout, kept: &Links, link: usize) -> Option<usize>
     ensures { MatchOption result (Kept layout.now (kept_at kept.now.words) link → ⊥) (LeadsTo layout.now (kept_at kept.now.words) link) }
 {
-    let scope = layout.scope(link / 4);
-    if link % 4 < scope.len() && kept.holds(link) {
-        Some(scope[link % 4] as usize)
-    } else {
-        None
-    }
+    variable_of(layout, link).filter(|_| kept.holds(link))
 }
 
 // Whether the link is kept and its variable is v.
 fn leads_to(layout: &Layout, kept: &Links, link: usize, v: usize) -> bool
     ensures { Decides result (LeadsTo layout.now (kept_at kept.now.words) link v) }
 {
-    match variable(layout, kept, link) {
-        Some(w) => w == v,
-        None => false,
-    }
+    variable(layout, kept, link) == Some(v)
 }
 
 impl Hung {
@@ -43,13 +30,15 @@ impl Hung {
     fn hang_variable(&mut self, layout: &Layout, kept: &Links, v: usize, parent: Option<usize>)
         requires sound { Sound layout.now (kept_at kept.now.words) self.old }
         requires free { FreeVariable layout.now (kept_at kept.now.words) self.old v parent }
-        ensures { Hangs layout.now (kept_at kept.now.words) (node.Variable v) (with_variable self.old v parent) self.new }
+        ensures { HangsVariable layout.now (kept_at kept.now.words) self.old v parent self.new }
     {
         self.mark_variable(v, parent);
-        for link in 0..END {
-            let f = link / 4;
-            if leads_to(layout, kept, link, v) && !self.functions[f].hung {
-                self.hang_function(layout, kept, f, link % 4);
+        // By number: the number is the link, and tells its function and place.
+        for link in 0..LINKS {
+            let f = link / MOST_PLACES;
+            let place = self.functions[f].parent;
+            if place.is_none() && leads_to(layout, kept, link, v) {
+                self.hang_function(layout, kept, f, link % MOST_PLACES);
             }
         }
     }
@@ -59,11 +48,12 @@ impl Hung {
     fn hang_function(&mut self, layout: &Layout, kept: &Links, f: usize, place: usize)
         requires sound { Sound layout.now (kept_at kept.now.words) self.old }
         requires free { FreeFunction layout.now (kept_at kept.now.words) self.old f place }
-        ensures { Hangs layout.now (kept_at kept.now.words) (node.Function f) (with_function self.old f place) self.new }
+        ensures { HangsFunction layout.now (kept_at kept.now.words) self.old f place self.new }
     {
         self.mark_function(f, place);
-        for p in 0..4 {
-            if let Some(v) = variable(layout, kept, 4 * f + p) {
+        // By number: with the function it gives the link.
+        for p in 0..MOST_PLACES {
+            if let Some(v) = variable(layout, kept, MOST_PLACES * f + p) {
                 if !self.variables[v].hung {
                     self.hang_variable(layout, kept, v, Some(f));
                 }
@@ -77,6 +67,7 @@ fn hung_parts(layout: &Layout, kept: &Links) -> Hung
     ensures { (P : Problem) → Shaped layout.now P → HangsForest P (kept_at kept.now.words) result }
 {
     let mut hung = Hung::none();
+    // By number: hanging one variable changes the records of others.
     for v in 0..layout.domains().len() {
         if !hung.variables[v].hung {
             hung.hang_variable(layout, kept, v, None);

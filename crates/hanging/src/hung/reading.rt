@@ -1,6 +1,6 @@
 // What is hung, node by node.
-ghost use Rattle.std.specs.Prelude.{◌≡◌, ◌<◌};
-ghost use Rattle.hanging.specs.Hung.{variable_at, function_at, node_at};
+ghost use Rattle.std.specs.Prelude.{◌≡◌, ◌<◌, ◌≤◌};
+ghost use Rattle.hanging.specs.Hung.{variable_at, function_at, place_of, order_of, count_of, node_at};
 
 use crate::hung::Hung;
 use crate::node::{Function, Node, Variable};
@@ -22,18 +22,36 @@ impl Hung {
         self.functions[f]
     }
 
-    // How many nodes are hung.
-    pub fn count(&self) -> usize
-        ensures { result ≡ self.now.count }
+    // The place by which a function hangs from the variable there; 0 for one that is not hung.
+    pub fn place_of(&self, f: usize) -> usize
+        requires { f < 64 }
+        ensures { result ≡ place_of self.now f }
     {
-        self.count
+        self.function(f).parent.unwrap_or(0)
     }
 
-    // The node at a position of the order, in which each stands after the one that it hangs from.
+    // The hung nodes, each after the one that it hangs from.
+    pub fn order(&self) -> &[Node]
+        ensures { result.now ≡ order_of self.now }
+    {
+        self.order.as_slice()
+    }
+
+    // How many nodes are hung.
+    pub fn count(&self) -> usize
+        ensures count { result ≡ count_of self.now }
+        ensures few { result ≤ 128 }
+    {
+        self.order.len()
+    }
+
+    // The node at a position of the order; the first variable at any position past its end.
     pub fn node(&self, position: usize) -> Node
-        requires { position < 128 }
         ensures { result ≡ node_at self.now position }
     {
-        self.order[position]
+        self.order()
+            .get(position)
+            .copied()
+            .unwrap_or(Node::Variable(0))
     }
 }

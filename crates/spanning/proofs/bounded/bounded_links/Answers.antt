@@ -6,7 +6,6 @@ use Rattle.forest.specs.declared.links.Links.{Links}
 use Rattle.forest.specs.FactorGraph.{layout_graph}
 use Rattle.keeping.specs.KeptByWeight.{KeptByWeight}
 use Rattle.keeping.specs.Weights.{weight_of}
-use Rattle.spanning.specs.HungForest.{HungForest}
 use Rattle.spanning.specs.LightestRemoved.{LightestRemoved}
 use Rattle.spanning.specs.WeightCells.{weight_cells}
 use Rattle.spanning.proofs.Removed.{no_cycle, each_kept, lightest_removed, bounded}
@@ -33,7 +32,7 @@ returns g c =
     let same = sym c.hung_by.ensures.kept in
     record {
       rule = subst (λ (links : Links). Bounded s.rules P w (kept_at links.words)) same (bounded s.rules t w K by_weight_lem c.requires.weights c.requires.unweighed);
-      hung = subst (λ (links : Links). HungForest P (kept_at links.words) c.hung_by.result.hung) same c.hung_by.ensures.hung;
+      hung = c.hung_by.ensures.hung;
       lightest = subst (λ (links : Links). LightestRemoved s.rules P w (kept_at links.words)) same
           (lightest_removed s.rules t w K by_weight_lem c.requires.weights g.met.V.Measuring.gaps);
     }

@@ -1,6 +1,7 @@
 use Rattle.std.proofs.Common.{◌+◌, ◌<◌, ◌≤◌, sym, ◌∙◌, subst, ⊎_elim, arith}
 use Rattle.std.proofs.lemmas.Bool.{cases_Bool, cases_lt}
 use Rattle.theory.specs.Kept.{kept_at}
+use Rattle.layout.proofs.Shapes.{few_functions}
 use Rattle.forest.specs.declared.links.Links.{Links}
 use Rattle.forest.specs.FactorGraph.{layout_graph}
 use Rattle.forest.proofs.FactorGraphs.{present_below}
@@ -29,7 +30,7 @@ returns c = λ n.
     ⊎_elim
     (λ (low : n < c.loop-link.link). inv.each n low)
     (λ (high : c.loop-link.link ≤ n). inv.rest n high ∙ sym (⊎_elim
-    (λ there. absurd (omega (arith, present_below l n there, l.lengths.1, l.counts.1)))
+    (λ there. absurd (omega (arith, present_below l n there, few_functions l)))
     (λ none. none)
     (cases_Bool ((layout_graph l).present n))))
     (cases_lt n c.loop-link.link)

@@ -1,17 +1,7 @@
-use Rattle.std.proofs.Common.{◌≡◌, ℕ, ◌+◌, ◌*◌, ◌/◌, ◌%◌, ◌≤◌, length, refl, ◌∙◌, subst, arith}
+use Rattle.std.proofs.Common.{◌≡◌, ℕ, ◌+◌, ◌*◌, ◌/◌, ◌%◌, ◌≤◌, length, ◌∙◌, subst, arith}
 use Rattle.tables.specs.View.{problem_of}
 use Rattle.spanning.proofs.Written.{LinkWeight, Weighed, weighed_more, all_weights, none_weighed, all_fine}
 use Rattle.spanning.proofs.weighing.weigh_links.Goals as goal
-
-pub loop-link-init : goal.loop-link-init
-loop-link-init g c = (
-  record { each = λ m h. absurd (omega arith); others = record { front = refl; back = refl; long = refl } },
-  refl,
-  refl,
-)
-
-pub put-requires : goal.put-requires
-put-requires g c = record { row = omega (arith, c.requires, c.loop-link.invariant.1); cell = omega arith }
 
 pub loop-link-preserved : goal.loop-link-preserved
 loop-link-preserved g c =
@@ -26,8 +16,8 @@ loop-link-preserved g c =
     let weight : LinkWeight s.rules s.means (s.within 2) P n v = record { weighs = weighs.weighs; unweighed = weighs.unweighed; fine = weighs.within } in (
       weighed_more s.rules s.means (s.within 2) P before c.loop-link.values.cells.now n v c.loop-link-test.true room weight inv.0
           (16 * (128 + n / 16) + n % 16) c.put.new.self.cells.now c.put.ensures.after (omega arith),
-      c.put.ensures.rows ∙ inv.1,
-      c.put.ensures.lent ∙ inv.2,
+      c.put.ensures.same.rows ∙ inv.1,
+      c.put.ensures.same.lent ∙ inv.2,
     )
 
 pub returns : goal.returns
@@ -45,6 +35,5 @@ returns g c =
       unweighed = none_weighed s.rules s.means after room (s.within 2) t before done;
       within = all_fine s.rules s.means after room (s.within 2) t before done;
       others = inv.0.others;
-      rows = inv.1;
-      lent = inv.2;
+      same = record { rows = inv.1; long = inv.0.others.long; lent = inv.2 };
     }

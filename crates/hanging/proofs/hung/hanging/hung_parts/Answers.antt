@@ -1,23 +1,14 @@
 use Rattle.std.proofs.Common.{◌≡◌, ◌+◌, ◌<◌, length, sym, ap, subst, arith}
 use Rattle.theory.specs.Kept.{kept_at}
 use Rattle.layout.specs.View.{domains_of}
-use Rattle.hanging.proofs.Parts.{PartsHung, parts_none, part_same, part_hung, root_free}
+use Rattle.hanging.proofs.Parts.{PartsHung, parts_none, part_same, part_hung}
 use Rattle.hanging.proofs.Forest.{hangs_forest}
 use Rattle.hanging.proofs.hung.hanging.hung_parts.Goals as goal
 use Rattle.hanging.proofs.hung.hanging.hung_parts.Goals.{then-not-hung-v, else-not-hung-v}
 
 pub loop-v-init : goal.loop-v-init
 loop-v-init c =
-    let l = c.args.layout.now in
-    let K = kept_at c.args.kept.now.words in
-    subst (λ s. PartsHung l K s 0) (sym c.none-hung.ensures) (parts_none l K)
-
-pub hang_variable-requires : goal.hang_variable-requires
-hang_variable-requires c =
-    let l = c.args.layout.now in
-    let K = kept_at c.args.kept.now.words in
-    let small : c.loop-v.v < length (domains_of l) = omega (arith, c.loop-v-test.true, ap length c.domains-v-end.ensures) in
-    record { sound = c.loop-v.invariant.sound; free = root_free l K c.loop-v.v c.loop-v.invariant small c.if-not-hung-v.true }
+    parts_none c.none-hung.ensures c.args.layout.now (kept_at c.args.kept.now.words)
 
 pub loop-v-preserved : goal.loop-v-preserved
 loop-v-preserved c =
