@@ -1,28 +1,24 @@
 -- Combinations and their positions. Assumes nothing.
-use Rattle.std.proofs.Common.{◌≡◌, ℕ, zero, suc, ◌+◌, ◌*◌, ◌/◌, ◌%◌, ◌^◌, ◌<◌, ◌≤◌, Bool, cond, List, [], ◌∷◌, length, get_or, take, sym, refl, ap, ◌∙◌, ap₂, mod-lt, div-lt_iff_lt-mul, mul-le-mul, mul-zero, div-add-mod', zero-mul, arith}
+use Rattle.std.proofs.Common.{◌≡◌, ℕ, zero, suc, ◌+◌, ◌*◌, ◌/◌, ◌%◌, ◌^◌, ◌<◌, ◌≤◌, Bool, cond, List, [], ◌∷◌, length, get_or, take, sym, refl, ap, ◌∙◌, ap₂, mod-lt, div-lt_iff_lt-mul, mul-le-mul, div-add-mod', zero-mul, arith}
 use native.Mathlib.Nat.{pow-le-pow_right, pow-succ'}
 use lib.Arith.{digits_div, digits_mod}
 use Rattle.std.proofs.lemmas.List.{length-take-le, take_more}
 use Rattle.std.proofs.lemmas.Bool.{cond_both, cond-true}
 use Rattle.theory.specs.Problem.{product, index}
-use Rattle.theory.proofs.Index.{Within, index_below, index_one, index_push}
+use Rattle.theory.proofs.Index.{Within, positive, index_below, index_one, index_push}
 use Rattle.messages.specs.Combinations.{combination, cleared}
-
-some_product : (s k i : ℕ) → i < s * k → 0 < k
-some_product s zero i h = omega (arith, mul-zero s)
-some_product s (suc k) i h = omega arith
 
 pub combination_within : (sizes : List ℕ) (i : ℕ) → i < product sizes → Within sizes (combination sizes i)
 combination_within [] i h = tt
 combination_within (s ∷ sizes) i h =
-    let some = some_product s (product sizes) i h in
+    let some = positive s (product sizes) i h in
     ((div-lt_iff_lt-mul some).1 h, combination_within sizes (i % product sizes) (mod-lt i some))
 
 pub index_combination : (sizes : List ℕ) (i : ℕ) → i < product sizes → index sizes (combination sizes i) ≡ i
 index_combination [] i h = omega arith
 index_combination (s ∷ sizes) i h =
     let k = product sizes in
-    let some = some_product s k i h in
+    let some = positive s k i h in
     ap (λ (n : ℕ). i / k * k + n) (index_combination sizes (i % k) (mod-lt i some)) ∙ div-add-mod' i k
 
 pub combination_of : (sizes xs : List ℕ) → Within sizes xs → combination sizes (index sizes xs) ≡ xs

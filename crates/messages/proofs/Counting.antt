@@ -1,8 +1,6 @@
 -- How many entries a message is joined of: at most as many as there are functions. Assumes nothing.
-use Rattle.std.proofs.Common.{◌≡◌, ℕ, zero, suc, ◌+◌, ◌*◌, ◌<◌, ◌≤◌, Bool, true, eqb, ◌⊎◌, Some, None, sym, refl, ap, ◌∙◌, inl, inr, ⊎_elim, suc-mul, arith}
-use Rattle.std.proofs.lemmas.Bool.{cases_eq, cases_lt, eq-eqb, le-leb, leb-true}
-use Rattle.scale.specs.Laws.{Plain}
-use Rattle.theory.specs.Joins.{joins, when}
+use Rattle.std.proofs.Common.{◌≡◌, ℕ, ◌+◌, ◌<◌, ◌≤◌, Bool, true, eqb, Some, None, sym, refl, ap, ◌∙◌, arith}
+use Rattle.std.proofs.lemmas.Bool.{eq-eqb, leb-true}
 use Rattle.theory.specs.Problem.{Problem, Sound, put, size, variables, functions}
 use Rattle.theory.specs.Forest.{Hanging, WellHung, above, hangs, is_root}
 use Rattle.theory.specs.Messages.{Messages, tree_value, from_variables}
@@ -12,47 +10,9 @@ use Rattle.theory.proofs.MessagesExist.{some_messages}
 use Rattle.theory.proofs.PickedPlan.{picked_plan}
 use Rattle.theory.proofs.Plans.{put_here, put_valid, nothing, nothing_valid}
 use Rattle.theory.proofs.TreeValue.{score_reached}
-use Rattle.messages.specs.Counts.{counts, one_entry}
-
-pub counts_laws : Plain counts
-counts_laws = record {
-  total = λ a b. ⊎_elim (λ h. inl (le-leb a b (omega arith))) (λ h. inr (le-leb b a h)) (cases_lt a b);
-  trans = λ a b c h k. le-leb a c (omega (arith, leb-true a b h, leb-true b c k));
-  antisym = λ a b h k. omega (arith, leb-true a b h, leb-true b a k);
-  comm = λ a b. omega arith;
-  assoc = λ a b c. omega arith;
-  unit = λ a. omega arith;
-  mono = λ a b c h. le-leb (b + c) (a + c) (omega (arith, leb-true b a h));
-}
-
-pub joins_mono : (k l : ℕ) (g : ℕ → ℕ) → k ≤ l → joins counts k g ≤ joins counts l g
-unfolding joins
-joins_mono k zero g h = let none : k ≡ 0 = omega arith in omega (arith, ap (λ (n : ℕ). joins counts n g) none)
-joins_mono k (suc l) g h = by_end (λ before. joins_mono k l g before) (cases_eq k (suc l))
-  where
-    by_end : (k ≤ l → joins counts k g ≤ joins counts l g) → (k ≡ suc l) ⊎ (k ≡ suc l → ⊥) → joins counts k g ≤ joins counts l g + g l
-    by_end rest (inl e) = omega (arith, ap (λ (n : ℕ). joins counts n g) e)
-    by_end rest (inr ne) = omega (arith, rest (omega arith))
-
--- a join of k counts of at most m each
-pub joins_bound : (k m : ℕ) (g : ℕ → ℕ) → ((i : ℕ) → i < k → g i ≤ m) → joins counts k g ≤ k * m
-unfolding joins
-joins_bound zero m g each = omega arith
-joins_bound (suc k) m g each = omega (arith, joins_bound k m g (λ i h. each i (omega arith)), each k (omega arith), suc-mul k m)
-
--- each member is at most the join
-joins_member : (k i : ℕ) (g : ℕ → ℕ) → i < k → g i ≤ joins counts k g
-unfolding joins
-joins_member k i g h = omega (arith, joins_mono (suc i) k g (omega arith))
-
--- the same of a member that passes its test
-passing_member : (k i : ℕ) (test : ℕ → Bool) (g : ℕ → ℕ) → i < k → test i ≡ true → g i ≤ joins counts k (λ j. when counts (test j) (g j))
-passing_member k i test g h e = omega (arith, joins_member k i (λ j. when counts (test j) (g j)) h, ap (λ (b : Bool). when counts b (g i)) e)
-
-joins_ones : (k : ℕ) → joins counts k (λ i. 1) ≡ k
-unfolding joins
-joins_ones zero = refl
-joins_ones (suc k) = omega (arith, joins_ones k)
+use Rattle.joining.specs.Counts.{counts}
+use Rattle.joining.proofs.Counting.{counts_laws, joins_ones, passing_member}
+use Rattle.messages.specs.Counts.{one_entry}
 
 module _ (P : Problem) (sound : Sound P) (kept : ℕ → Bool) (H : Hanging) (hung : WellHung P kept H) where
   pub some_counts : Messages counts P H one_entry

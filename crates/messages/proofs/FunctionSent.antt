@@ -1,5 +1,6 @@
 -- The best entries of a function are its message, and where they stand are its choices. Assumes nothing.
-use Rattle.std.proofs.Common.{◌≡◌, ℕ, ◌<◌, min, Bool, true, List, [], ◌∷◌, length, get_or, Some, sym, refl, ap, ◌∙◌, subst, ap₂, inl, inr, ⊎_elim, arith}
+use Rattle.std.proofs.Common.{◌≡◌, ℕ, ◌<◌, min, Bool, true, List, [], ◌∷◌, length, take, get_or, Some, None, Option, sym, refl, ap, ◌∙◌, subst, ap₂, arith}
+use Rattle.std.proofs.lemmas.List.{get_or-take}
 use Rattle.std.proofs.lemmas.Bool.{both_ways}
 use Rattle.scale.specs.Rules.{Rules}
 use Rattle.scale.specs.Laws.{Plain}
@@ -10,15 +11,18 @@ use Rattle.theory.specs.Forest.{Hanging, WellHung, above}
 use Rattle.theory.specs.Messages.{Messages}
 use Rattle.theory.proofs.Extremes.{highest_unique}
 use Rattle.theory.proofs.Hangs.{hangs_from}
+use Rattle.theory.proofs.Powers.{leq_refl}
 use Rattle.messages.specs.declared.place.Place.{Place}
 use Rattle.messages.specs.declared.places.Places.{Places}
 use Rattle.messages.specs.Combinations.{combination, sizes_at}
-use Rattle.messages.specs.Counts.{counts, one_entry}
-use Rattle.messages.specs.Holding.{StandsFor, Holds}
+use Rattle.joining.specs.Counts.{counts}
+use Rattle.messages.specs.Counts.{one_entry}
+use Rattle.joining.specs.Standing.{StandsFor}
+use Rattle.messages.specs.Holding.{Holds}
 use Rattle.messages.specs.Places.{PlacesOf, CutWords, sizes_in}
 use Rattle.messages.specs.Positions.{table_length, ParentAt, CutEntries, from_below, given_at, FirstHighest}
-use Rattle.messages.specs.Sent.{variable_cell, VariableSent, FunctionSent}
-use Rattle.messages.specs.Upward.{upward_at, gives, Candidate, Best, best_at, Supplied, Leads, BestEntries}
+use Rattle.messages.specs.Sent.{variable_cell, function_cell, VariableSent, FunctionSent}
+use Rattle.messages.specs.Upward.{upward_at, gives, Best, best_of, Candidate, Chosen, Supplied, Leads, Running, BestEntries}
 use Rattle.messages.proofs.AtPositions.{some_position, message_is, takes_is, plan_there}
 use Rattle.messages.proofs.Counting.{r_few}
 use Rattle.messages.proofs.GivenCounts.{given_within}
@@ -30,7 +34,7 @@ some_element (x ∷ xs) h = x
 
 module _ {V E : Type 0} (R : Rules E) (L : Plain R) (means : V → E) (within : ℕ → V → Type 0)
     (P : Problem) (fits : Fits P) (kept : ℕ → Bool) (H : Hanging) (well : WellHung P kept H) (f : ℕ) (known : f < functions P)
-    (s : Places) (of : PlacesOf P kept H f s) (cuts : List ℕ) (laid : CutWords R s (function P f).words cuts) where
+    (s : Places) (of : PlacesOf P kept H f s) (cuts : List ℕ) (laid : CutWords R s (function P f).words cuts) (whole : length cuts ≡ table_length P f) where
   sound : Sound P
   sound = fits.sound
 
@@ -63,16 +67,13 @@ module _ {V E : Type 0} (R : Rules E) (L : Plain R) (means : V → E) (within : 
   unfolding cut_at
   gives_is q j = ap (R.join (R.reads (get_or cuts j 0))) (up_is R q j)
 
-  itself : (a : E) → R.leq a a ≡ true
-  itself a = ⊎_elim (λ e. e) (λ e. e) (L.total a a)
-
   -- of how many entries the message at x may be joined
   most : Messages counts P H one_entry → ℕ → ℕ
   most n x = min (n.r f x) 1024
 
   module _ (cut : ℕ → Plan → E) (is_cut : IsCut R P kept cut) (m : Messages R P H cut) (n : Messages counts P H one_entry)
       (before : List V) (below : (u : ℕ) → u < variables P → H.var_parent u ≡ Some f → VariableSent R means within P kept H cut m n before u) where
-    supplied : Supplied R means within s (table_length P f) before m.q n.q (most n)
+    supplied : Supplied R means within s (length cuts) before m.q n.q (most n)
     unfolding most
     supplied = record {
       below = λ p x h on k.
@@ -82,7 +83,7 @@ module _ {V E : Type 0} (R : Rules E) (L : Plain R) (means : V → E) (within : 
           subst (λ (a : Place). Holds means within before (variable_cell a.variable x) (m.q a.variable x) (n.q a.variable x)) (sym is)
           (below (at P f p) (sound.known f p known place) hung x (subst (λ (a : Place). x < a.size) is k));
       few = λ x j low candidate.
-          let there = from_candidate x j low candidate in
+          let there = from_candidate x j (omega (arith, whole)) candidate in
           let (y, valid, here, is) = plan_there P sound kept H well f known x j there in
           let inside : x < size P (above P H f) = subst (λ (a : ℕ). a < size P (above P H f)) here (valid (above P H f) (sound.known f (H.fun_parent f) known (well.fun_place f known))) in
           let bound = given_within P sound kept H well f known n x inside j there in
@@ -104,7 +105,7 @@ module _ {V E : Type 0} (R : Rules E) (L : Plain R) (means : V → E) (within : 
         first = λ j there is earlier.
             let lower = leads.first j earlier (to_candidate x j there) in
             let same : gives R s cuts m.q b.index ≡ gives R s cuts m.q j = gives_is m.q b.index ∙ sym is ∙ sym (gives_is m.q j) in
-            both_ways (R.leq (gives R s cuts m.q b.index) (gives R s cuts m.q j)) lower (subst (λ (a : E). R.leq (gives R s cuts m.q b.index) a ≡ true) same (itself _));
+            both_ways (R.leq (gives R s cuts m.q b.index) (gives R s cuts m.q j)) lower (subst (λ (a : E). R.leq (gives R s cuts m.q b.index) a ≡ true) same (leq_refl L _));
       }
 
       best_is : best ≡ m.r f x
@@ -122,19 +123,23 @@ module _ {V E : Type 0} (R : Rules E) (L : Plain R) (means : V → E) (within : 
             few = subst (λ (k : ℕ). within k b.value) all leads.stands.few;
           }
 
+    -- each value of the parent has a best entry
+    leading : (x : ℕ) → x < size P (above P H f) → (cells : V → V) → V → (o : Option ℕ) → ((d : V) → Running R means within (Candidate s x) (gives R s cuts m.q) (most n x) (table_length P f) (best_of o (cells d))) →
+        (i : ℕ) × (o ≡ Some i) × ((d : V) → Leads R means within (Candidate s x) (gives R s cuts m.q) (most n x) (table_length P f) (record { value = cells d; index = i }))
+    leading x inside cells some None none = let (i, there) = some_position P sound kept H well f known x inside in absurd (none some i there.0.0 (to_candidate x i there))
+    leading x inside cells some (Some i) leads = (i, refl, leads)
+
     -- what the boards then hold
-    pub function_sent : (seen : List Bool) (cells : List V) (choices : List ℕ) → 0 < length cells → BestEntries R means within s f (table_length P f) cuts before (table_length P f) seen cells choices →
-        FunctionSent R means within P kept H cut m n cells choices f
-    function_sent seen cells choices long bests x inside =
+    pub function_sent : (row : List (Option ℕ)) (cells : List V) (choices : List ℕ) → 0 < length cells → BestEntries R means within s f cuts before (length cuts) row cells →
+        Chosen (take (size P (above P H f)) row) f choices → FunctionSent R means within P kept H cut m n cells choices f
+    function_sent row cells choices long running chosen x inside =
         let small : x < 16 = omega (arith, fits.small_domains (above P H f) (sound.known f (H.fun_parent f) known (well.fun_place f known))) in
-        let (i, there) = some_position P sound kept H well f known x inside in
         let some : V = some_element cells long in
-        let leading : (d : V) → Leads R means within (Candidate s x) (gives R s cuts m.q) (most n x) (table_length P f) (best_at seen cells choices f x d) = λ d.
-        elim (bests m.q n.q (most n) supplied x small d) [
-          | inl none ↦ absurd (none.1 i there.0.0 (to_candidate x i there))
-          | inr some ↦ some.1
-        ] in
-        let b = best_at seen cells choices f x some in (
-          λ d. message_stands x inside (best_at seen cells choices f x d) (leading d),
-          takes_is R L P sound kept H well f known cut_at entries cut is_cut m x (best x inside b (leading some)) b.index (first_highest x inside b (leading some)) (best_is x inside b (leading some)),
+        let held : V → V = get_or cells (function_cell f x) in
+        let (i, is, leads) = leading x inside held some (get_or row x None) (λ d.
+        subst (λ (i : ℕ). Running R means within (Candidate s x) (gives R s cuts m.q) (most n x) i (best_of (get_or row x None) (held d))) whole (running m.q n.q (most n) supplied x small d)) in
+        let b : Best V = record { value = held some; index = i } in
+        let (y, takes, stands) = takes_is R L P sound kept H well f known cut_at entries cut is_cut m x (best x inside b (leads some)) i (first_highest x inside b (leads some)) (best_is x inside b (leads some)) in (
+          λ d. message_stands x inside (record { value = held d; index = i }) (leads d),
+          (y, takes, stands ∙ sym (chosen x i (get_or-take (size P (above P H f)) row x None inside ∙ is))),
         )

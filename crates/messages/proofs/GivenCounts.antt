@@ -5,10 +5,11 @@ use Rattle.theory.specs.Problem.{Problem, Sound, size, functions}
 use Rattle.theory.specs.Forest.{Hanging, WellHung, above}
 use Rattle.theory.specs.Messages.{Messages}
 use Rattle.messages.specs.Combinations.{combination, sizes_at}
-use Rattle.messages.specs.Counts.{counts, one_entry}
+use Rattle.joining.specs.Counts.{counts}
+use Rattle.messages.specs.Counts.{one_entry}
 use Rattle.messages.specs.Positions.{ParentAt, from_below}
 use Rattle.messages.proofs.AtPositions.{plan_there, below_at}
-use Rattle.messages.proofs.Counting.{counts_laws}
+use Rattle.joining.proofs.Counting.{counts_laws}
 
 -- An entry and what comes up to it are at most what the message is joined of.
 pub given_within : (P : Problem) (sound : Sound P) (kept : ℕ → Bool) (H : Hanging) (hung : WellHung P kept H) (f : ℕ) (known : f < functions P)

@@ -5,8 +5,8 @@ pub mod AtPositions
 pub mod Counting
 pub mod GivenCounts
 pub mod Lowering
-pub mod Joining
 pub mod Running
+pub mod Writing
 pub mod OfPlaces
 pub mod FunctionSent
 pub mod Passing

@@ -1,10 +1,11 @@
 -- The lowest of the values of each group, as the numbers below n are gone through. The group of a number is told by its key, its first number. Assumes nothing.
-use Rattle.std.proofs.Common.{◌≡◌, ℕ, ◌+◌, ◌<◌, ◌≤◌, true, false, ◌⊎◌, List, length, get_or, set, sym, ap, ◌∙◌, subst, inl, inr, ⊎_elim, arith}
+use Rattle.std.proofs.Common.{◌≡◌, ℕ, ◌+◌, ◌<◌, ◌≤◌, true, cond, ◌⊎◌, List, length, get_or, set, sym, ap, ◌∙◌, subst, inl, inr, ⊎_elim, arith}
 use Rattle.std.proofs.lemmas.List.{get_or-set_same, get_or-set_other}
-use Rattle.std.proofs.lemmas.Bool.{cases_eq, both_ways}
+use Rattle.std.proofs.lemmas.Bool.{cases_eq, cases_Bool, both_ways}
 use Rattle.scale.specs.Rules.{Rules}
 use Rattle.scale.specs.Laws.{Plain}
 use Rattle.theory.specs.Joins.{Lowest}
+use Rattle.theory.proofs.Powers.{leq_refl}
 
 module _ {V E : Type 0} (R : Rules E) (L : Plain R) (means : V → E) (key : ℕ → ℕ) (read : ℕ → E) where
   -- b is the lowest of the values below n in the group of k
@@ -14,37 +15,32 @@ module _ {V E : Type 0} (R : Rules E) (L : Plain R) (means : V → E) (key : ℕ
   abbrev pub Lows : ℕ → List V → Type 0
   Lows n cells = (k : ℕ) → k < n → key k ≡ k → (d : V) → Low n k (get_or cells k d)
 
-  itself : (a : E) → R.leq a a ≡ true
-  itself a = ⊎_elim (λ e. e) (λ e. e) (L.total a a)
-
   module _ (i : ℕ) (new : V) (is : means new ≡ read i) where
     -- the first of its group
     alone : key i ≡ i → ((j : ℕ) → j < i → key j ≤ j) → Low (i + 1) i new
     alone own low = record {
       attained = (i, (omega arith, own), sym is);
       bound = λ j (h, e). elim (cases_eq j i) [
-        | inl d ↦ subst (λ (a : E). R.leq (means new) a ≡ true) (is ∙ ap read (sym d)) (itself (means new))
+        | inl d ↦ subst (λ (a : E). R.leq (means new) a ≡ true) (is ∙ ap read (sym d)) (leq_refl L (means new))
         | inr d ↦ absurd (omega (arith, low j (omega arith)))
       ];
     }
 
     -- one more of a group
-    lowered : (k : ℕ) (old : V) → Low i k old → key i ≡ k → (r : V) →
-        ((true ≡ R.leq (means new) (means old)) × (r ≡ new)) ⊎ ((false ≡ R.leq (means new) (means old)) × (r ≡ old)) → Low (i + 1) k r
-    lowered k old so_far own r way =
+    lowered : (k : ℕ) (old : V) → Low i k old → key i ≡ k → Low (i + 1) k (cond (R.leq (means new) (means old)) new old)
+    lowered k old so_far own =
         let both : (m : V) → R.leq (means m) (means old) ≡ true → R.leq (means m) (means new) ≡ true → (j : ℕ) → (j < i + 1) × (key j ≡ k) → R.leq (means m) (read j) ≡ true =
         λ m under-old under-new j (h, e). elim (cases_eq j i) [
           | inl d ↦ subst (λ (a : E). R.leq (means m) a ≡ true) (is ∙ ap read (sym d)) under-new
           | inr d ↦ L.trans (means m) (means old) (read j) under-old (so_far.bound j (omega arith, e))
         ] in
         let (j, (h, e), at) = so_far.attained in
-        ⊎_elim
-        (λ (w : (true ≡ R.leq (means new) (means old)) × (r ≡ new)). subst (Low (i + 1) k) (sym w.1)
-        (record { attained = (i, (omega arith, own), sym is); bound = both new (sym w.0) (itself (means new)) }))
-        (λ (w : (false ≡ R.leq (means new) (means old)) × (r ≡ old)).
-        let up : R.leq (means old) (means new) ≡ true = ⊎_elim (λ t. absurd (both_ways (R.leq (means new) (means old)) (sym w.0) t)) (λ t. t) (L.total (means new) (means old)) in
-        subst (Low (i + 1) k) (sym w.1) (record { attained = (j, (omega arith, e), at); bound = both old (itself (means old)) up }))
-        way
+        elim (cases_Bool (R.leq (means new) (means old))) [
+          | inl low ↦ subst (λ b. Low (i + 1) k (cond b new old)) (sym low) (record { attained = (i, (omega arith, own), sym is); bound = both new low (leq_refl L (means new)) })
+          | inr high ↦
+              let up : R.leq (means old) (means new) ≡ true = ⊎_elim (λ t. absurd (both_ways (R.leq (means new) (means old)) high t)) (λ t. t) (L.total (means new) (means old)) in
+              subst (λ b. Low (i + 1) k (cond b new old)) (sym high) (record { attained = (j, (omega arith, e), at); bound = both old (leq_refl L (means old)) up })
+        ]
 
   -- a number of another group
   passed : (i k : ℕ) (b : V) → Low i k b → (key i ≡ k → ⊥) → Low (i + 1) k b
@@ -62,7 +58,7 @@ module _ {V E : Type 0} (R : Rules E) (L : Plain R) (means : V → E) (key : ℕ
   pub lows_step : (i : ℕ) (cells : List V) (new r : V) → i < length cells → key i ≤ i → key (key i) ≡ key i → ((j : ℕ) → j < i → key j ≤ j) →
       Lows i cells → means new ≡ read i →
       ((key i ≡ i) × (r ≡ new)) ⊎ ((key i ≡ i → ⊥) × ((d : V) →
-      ((true ≡ R.leq (means new) (means (get_or cells (key i) d))) × (r ≡ new)) ⊎ ((false ≡ R.leq (means new) (means (get_or cells (key i) d))) × (r ≡ get_or cells (key i) d)))) →
+      r ≡ cond (R.leq (means new) (means (get_or cells (key i) d))) new (get_or cells (key i) d))) →
       Lows (i + 1) (set cells (key i) r)
   lows_step i cells new r room low twice lows so_far is way k h own d =
       elim (cases_eq k (key i)) [
@@ -70,7 +66,7 @@ module _ {V E : Type 0} (R : Rules E) (L : Plain R) (means : V → E) (key : ℕ
             (λ (w : (key i ≡ i) × (r ≡ new)). subst (λ (n : ℕ). Low (i + 1) n r) (sym (e ∙ w.0)) (subst (Low (i + 1) i) (sym w.1) (alone i new is w.0 lows)))
             (λ w.
             let before : k < i = omega (arith, w.0) in
-            lowered i new is k (get_or cells (key i) d) (subst (λ (n : ℕ). Low i k (get_or cells n d)) e (so_far k before own d)) (sym e) r (w.1 d))
+            subst (Low (i + 1) k) (sym (w.1 d)) (lowered i new is k (get_or cells (key i) d) (subst (λ (n : ℕ). Low i k (get_or cells n d)) e (so_far k before own d)) (sym e)))
             way)
         | inr apart ↦
             let other : key i ≡ k → ⊥ = λ e. apart (sym e) in

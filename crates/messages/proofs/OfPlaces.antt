@@ -10,7 +10,7 @@ use Rattle.theory.proofs.Joins.{joins_cong}
 use Rattle.messages.specs.declared.place.Place.{Place}
 use Rattle.messages.specs.declared.places.Places.{Places}
 use Rattle.messages.specs.Combinations.{combination, cleared, sizes_at, cut_position}
-use Rattle.messages.specs.Places.{PlacesOf, place_in, sizes_in, cut_index}
+use Rattle.messages.specs.Places.{PlacesOf, count_in, place_in, sizes_in, cut_index}
 use Rattle.messages.specs.Positions.{from_below}
 use Rattle.messages.specs.Upward.{upward}
 use Rattle.messages.proofs.Combining.{cleared_same}
@@ -40,13 +40,13 @@ module _ (P : Problem) (kept : ℕ → Bool) (H : Hanging) (f : ℕ) (s : Places
       ap (index (sizes_in s)) (cleared_same (λ p. (place_in s p).kept) (λ p. kept (link f p)) (combination (sizes_in s) i) (λ p h. ap (λ (x : Place). x.kept) (of.each p (omega arith))))
       ∙ ap (λ (sizes : List ℕ). index sizes (cleared (λ p. kept (link f p)) (combination sizes i))) sizes_are
 
-  pub upward_is : {E : Type 0} (R : Rules E) (q : ℕ → ℕ → E) (xs : List ℕ) → upward R s q xs s.count ≡ from_below R P H q f xs
+  pub upward_is : {E : Type 0} (R : Rules E) (q : ℕ → ℕ → E) (xs : List ℕ) → upward R s q xs (count_in s) ≡ from_below R P H q f xs
   upward_is R q xs =
       ap (upward R s q xs) of.count
       ∙ joins_cong R (arity P f) (λ p h. ap (λ (x : Place). when R x.below (q x.variable (get_or xs p 0))) (of.each p h))
 
   module _ (known : f < functions P) (well : WellHung P kept H) where
-    pub parent_place : s.parent < s.count
+    pub parent_place : s.parent < count_in s
     parent_place = omega (arith, of.parent, of.count, well.fun_place f known)
 
     pub parent_is : (place_in s s.parent).variable ≡ above P H f

@@ -12,9 +12,10 @@ use Rattle.hanging.specs.declared.node.Node.{Node}
 use Rattle.hanging.specs.declared.node.Node.TheVariants as node
 use Rattle.hanging.specs.Forest.{hanging_of, Known, InOrder}
 use Rattle.hanging.specs.Growing.{Before}
-use Rattle.hanging.specs.Hung.{node_at}
-use Rattle.messages.specs.Counts.{counts, one_entry}
-use Rattle.messages.specs.Holding.{StandsFor}
+use Rattle.hanging.specs.Hung.{count_of, node_at}
+use Rattle.joining.specs.Counts.{counts}
+use Rattle.messages.specs.Counts.{one_entry}
+use Rattle.joining.specs.Standing.{StandsFor}
 use Rattle.messages.specs.Sending.{node_cells, node_choices, SendsNode}
 use Rattle.messages.specs.Sent.{variable_cell, function_cell, choice_cell, VariableSent, FunctionSent}
 
@@ -65,14 +66,14 @@ module _ {V E : Type 0} (R : Rules E) (means : V → E) (within : ℕ → V → 
 
 -- The node at position p of the order, where those behind it are sent.
 module _ (P : Problem) (r : Hung) (order : InOrder P r) where
-  at_once : (i j : ℕ) → i < r.count → j < r.count → node_at r i ≡ node_at r j → i ≡ j
+  at_once : (i j : ℕ) → i < count_of r → j < count_of r → node_at r i ≡ node_at r j → i ≡ j
   at_once i j h k e = elim (cases_eq i j) [
     | inl d ↦ d
     | inr d ↦ elim (cases_lt i j) [ inl l ↦ absurd (order.once i j l k e) | inr l ↦ absurd (order.once j i (omega arith) h (sym e)) ]
   ]
 
   -- what stands behind the node at p
-  behind : (a b : Node) (p : ℕ) → p < r.count → node_at r p ≡ a → Before r a b → (i : ℕ) × (p < i) × (i < r.count) × (node_at r i ≡ b)
+  behind : (a b : Node) (p : ℕ) → p < count_of r → node_at r p ≡ a → Before r a b → (i : ℕ) × (p < i) × (i < count_of r) × (node_at r i ≡ b)
   behind a b p h is before =
       let same = at_once before.first p before.one.within h (before.one.here ∙ sym is) in
       (before.second, let l = before.less in omega arith, before.other.within, before.other.here)
@@ -82,9 +83,9 @@ module _ (P : Problem) (r : Hung) (order : InOrder P r) where
     H = hanging_of r
 
     -- the node's message, from those behind it
-    pub sent_here : (b : Node) (p : ℕ) → p < r.count → node_at r p ≡ b → Known P b → SendsNode R means within P kept H b before cells choices' →
+    pub sent_here : (b : Node) (p : ℕ) → p < count_of r → node_at r p ≡ b → Known P b → SendsNode R means within P kept H b before cells choices' →
         (cut : ℕ → Plan → E) (is_cut : IsCut R P kept cut) (m : Messages R P H cut) (n : Messages counts P H one_entry) →
-        ((i : ℕ) → p < i → i < r.count → NodeSent R means within P kept H cut m n before choices (node_at r i)) →
+        ((i : ℕ) → p < i → i < count_of r → NodeSent R means within P kept H cut m n before choices (node_at r i)) →
         NodeSent R means within P kept H cut m n cells choices' b
     sent_here (node.Variable v) p h is known sends cut is_cut m n later =
         sends cut is_cut m n (λ f low above-is x small.

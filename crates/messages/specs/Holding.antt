@@ -1,17 +1,8 @@
--- Values of the machine and cells of a board, by the exact values that they stand for. Assumes nothing.
-use Rattle.std.specs.Prelude.{◌≡◌, ℕ, ◌+◌, ◌≤◌, List, slice_index_or}
-use Rattle.scale.specs.Rules.{Rules}
+-- Cells of a board, by the exact values that they stand for. Assumes nothing.
+use Rattle.std.specs.Prelude.{ℕ, List, slice_index_or}
+use Rattle.joining.specs.Standing.{StandsFor}
 
 module _ {V E : Type 0} (means : V → E) (within : ℕ → V → Type 0) where
-  -- r stands for the exact value e, and is joined of at most n entries.
-  pub record StandsFor (e : E) (n : ℕ) (r : V) : Type 0 where
-    pub exact : means r ≡ e
-    pub few : within n r
-
   -- The cell i stands for e, joined of at most n entries. (No cell past the end does, since the default is any value.)
   abbrev pub Holds : List V → ℕ → E → ℕ → Type 0
-  Holds cells i e n = (d : V) → StandsFor e n (slice_index_or cells i d)
-
--- r is a joined with b, exactly so for at most 1,024 entries in all.
-abbrev pub JoinOf : {V E : Type 0} → Rules E → (V → E) → (ℕ → V → Type 0) → V → V → V → Type 0
-JoinOf R means within a b r = (m n : ℕ) → within m a → within n b → m + n ≤ 1024 → (means r ≡ R.join (means a) (means b)) × within (m + n) r
+  Holds cells i e n = (d : V) → StandsFor means within e n (slice_index_or cells i d)

@@ -3,6 +3,7 @@ pub mod Combinations
 pub mod Places
 pub mod Counts
 pub mod Holding
+pub mod Rooted
 pub mod Positions
 pub mod Sent
 pub mod Upward

@@ -7,7 +7,8 @@ use Rattle.theory.specs.Messages.{Messages}
 use Rattle.theory.specs.Problem.{Problem, Plan, variables, functions, size}
 use Rattle.hanging.specs.declared.node.Node.{Node}
 use Rattle.hanging.specs.declared.node.Node.TheVariants as node
-use Rattle.messages.specs.Counts.{counts, one_entry}
+use Rattle.joining.specs.Counts.{counts}
+use Rattle.messages.specs.Counts.{one_entry}
 use Rattle.messages.specs.Holding.{Holds}
 use Rattle.messages.specs.Sent.{variable_cell, function_cell, choice_cell, VariableSent, FunctionSent, Sent}
 

@@ -6,7 +6,8 @@ use Rattle.theory.specs.Problem.{Problem, Plan, size, position}
 use Rattle.theory.specs.Forest.{Hanging, above}
 use Rattle.theory.specs.Messages.{Messages}
 use Rattle.rules.specs.Report.{Takes}
-use Rattle.messages.specs.Counts.{counts, one_entry}
+use Rattle.joining.specs.Counts.{counts}
+use Rattle.messages.specs.Counts.{one_entry}
 use Rattle.messages.specs.Holding.{Holds}
 
 -- the cell of a variable's message at its value x, of a function's at its parent's value x, and of a function's choice there

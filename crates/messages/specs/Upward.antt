@@ -1,12 +1,13 @@
 -- What comes up to a function by its places, and the best of its entries. Assumes nothing.
-use Rattle.std.specs.Prelude.{◌≡◌, ℕ, ◌+◌, ◌<◌, ◌≤◌, Bool, true, false, ◌⊎◌, List, slice_index, slice_index_or}
+use Rattle.std.specs.Prelude.{◌≡◌, ℕ, ◌+◌, ◌<◌, ◌≤◌, true, false, cond, List, length, slice_index, slice_index_or, Some, None, Option}
 use Rattle.scale.specs.Rules.{Rules}
 use Rattle.theory.specs.Joins.{joins, when}
 use Rattle.messages.specs.declared.places.Places.{Places}
 use Rattle.messages.specs.Combinations.{combination}
-use Rattle.messages.specs.Counts.{counts}
-use Rattle.messages.specs.Holding.{StandsFor, Holds}
-use Rattle.messages.specs.Places.{place_in, sizes_in, cut_index}
+use Rattle.joining.specs.Counts.{counts}
+use Rattle.joining.specs.Standing.{StandsFor}
+use Rattle.messages.specs.Holding.{Holds}
+use Rattle.messages.specs.Places.{place_in, count_in, sizes_in, cut_index}
 use Rattle.messages.specs.Sent.{variable_cell, function_cell, choice_cell}
 
 -- For messages q of variables: what comes up at the values xs from the variables below, by the first k places.
@@ -15,7 +16,7 @@ upward R s q xs k = joins R k (λ p. when R (place_in s p).below (q (place_in s 
 
 -- the same at the values that stand at the index j, by all places
 abbrev pub upward_at : {E : Type 0} → Rules E → Places → (ℕ → ℕ → E) → ℕ → E
-upward_at R s q j = upward R s q (combination (sizes_in s) j) s.count
+upward_at R s q j = upward R s q (combination (sizes_in s) j) (count_in s)
 
 -- what a function with the cut table `cuts` gives at the index j, with what comes up to it
 abbrev pub gives : {E : Type 0} → Rules E → Places → List ℕ → (ℕ → ℕ → E) → ℕ → E
@@ -25,21 +26,30 @@ gives R s cuts q j = R.join (R.reads (slice_index cuts j)) (upward_at R s q j)
 abbrev pub Candidate : Places → ℕ → ℕ → Type 0
 Candidate s x j = (cut_index s j ≡ j) × (slice_index (combination (sizes_in s) j) s.parent ≡ x)
 
--- The best entry so far, if one was seen, and the index where it stands.
+-- an entry, and the index where it stands
 pub record Best (V : Type 0) : Type 0 where
-  pub seen : Bool
   pub value : V
   pub index : ℕ
 
--- the best entry of the function f at the value x of its parent, as it stands in the boards
-abbrev pub best_at : {V : Type 0} → List Bool → List V → List ℕ → ℕ → ℕ → V → Best V
-best_at seen cells choices f x d = record { seen = slice_index_or seen x false; value = slice_index_or cells (function_cell f x) d; index = slice_index choices (choice_cell f x) }
+-- the best entry of a function at the value x of its parent, if there is one: its index is in the row, its value in the cell
+abbrev pub best_of : {V : Type 0} → Option ℕ → V → Option (Best V)
+best_of None v = None
+best_of (Some i) v = Some (record { value = v; index = i })
+
+-- the better of the best entry so far, if any, and one entry more: the new one if it is the first, or higher
+abbrev pub better : {V E : Type 0} → Rules E → (V → E) → Option (Best V) → Best V → Best V
+better R means None new = new
+better R means (Some b) new = cond (R.leq (means new.value) (means b.value)) b new
+
+-- Where the row has an index for the value x, it stands in the choice of f there.
+abbrev pub Chosen : List (Option ℕ) → ℕ → List ℕ → Type 0
+Chosen row f choices = (x i : ℕ) → slice_index_or row x None ≡ Some i → slice_index choices (choice_cell f x) ≡ i
 
 module _ {V E : Type 0} (R : Rules E) (means : V → E) (within : ℕ → V → Type 0) where
   -- The messages q of the variables below stand in their cells, each joined of as many entries as n says.
   abbrev pub BelowHeld : Places → List V → (ℕ → ℕ → E) → (ℕ → ℕ → ℕ) → Type 0
   BelowHeld s cells q n =
-      (p x : ℕ) → p < s.count → (place_in s p).below ≡ true → x < (place_in s p).size →
+      (p x : ℕ) → p < count_in s → (place_in s p).below ≡ true → x < (place_in s p).size →
       Holds means within cells (variable_cell (place_in s p).variable x) (q (place_in s p).variable x) (n (place_in s p).variable x)
 
   -- What the best entries are made of: the messages q from below, and how many entries the message at a value x may be joined of.
@@ -48,28 +58,23 @@ module _ {V E : Type 0} (R : Rules E) (means : V → E) (within : ℕ → V → 
     pub few : (x j : ℕ) → j < words → Candidate s x j → 1 + upward_at counts s n j ≤ most x
     pub small : (x : ℕ) → most x ≤ 1024
 
-  -- r is the best of b and one entry more: the new one if it is the first, or higher.
-  abbrev pub With : Best V → V → ℕ → Best V → Type 0
-  With b new i r =
-      ((b.seen ≡ true) × (R.leq (means new) (means b.value) ≡ true) × (r ≡ b))
-      ⊎ (((b.seen ≡ false) ⊎ (R.leq (means new) (means b.value) ≡ false)) × (r ≡ record { seen = true; value = new; index = i }))
-
-  -- b is the first of the highest among the numbers below i that are candidates, and nothing where there is none.
+  -- b is the first of the highest among the numbers below i that are candidates.
   pub record Leads (D : ℕ → Type 0) (value : ℕ → E) (most i : ℕ) (b : Best V) : Type 0 where
     pub here : (b.index < i) × D b.index
     pub stands : StandsFor means within (value b.index) most b.value
     pub bound : (j : ℕ) → j < i → D j → R.leq (value j) (value b.index) ≡ true
     pub first : (j : ℕ) → j < b.index → D j → R.leq (value b.index) (value j) ≡ false
 
-  abbrev pub Running : (ℕ → Type 0) → (ℕ → E) → ℕ → ℕ → Best V → Type 0
-  Running D value most i b = ((b.seen ≡ false) × ((j : ℕ) → j < i → D j → ⊥)) ⊎ ((b.seen ≡ true) × Leads D value most i b)
+  -- the same of the best entry so far, which is none where no number below i is a candidate
+  abbrev pub Running : (ℕ → Type 0) → (ℕ → E) → ℕ → ℕ → Option (Best V) → Type 0
+  Running D value most i None = (j : ℕ) → j < i → D j → ⊥
+  Running D value most i (Some b) = Leads D value most i b
 
-  -- For each value x of the parent of f, the best entry among the first i indices of its table of so many words stands in the boards;
-  -- `before` are the cells as they were, with the messages from below.
-  abbrev pub BestEntries : Places → ℕ → ℕ → List ℕ → List V → ℕ → List Bool → List V → List ℕ → Type 0
-  BestEntries s f words cuts before i seen cells choices =
-      (q : ℕ → ℕ → E) (n : ℕ → ℕ → ℕ) (most : ℕ → ℕ) → Supplied s words before q n most →
-      (x : ℕ) → x < 16 → (d : V) → Running (Candidate s x) (gives R s cuts q) (most x) i (best_at seen cells choices f x d)
+  -- For each value x of the parent of f, the best entry among the first i indices of its cut table; `before` are the cells as they were, with the messages from below.
+  abbrev pub BestEntries : Places → ℕ → List ℕ → List V → ℕ → List (Option ℕ) → List V → Type 0
+  BestEntries s f cuts before i row cells =
+      (q : ℕ → ℕ → E) (n : ℕ → ℕ → ℕ) (most : ℕ → ℕ) → Supplied s (length cuts) before q n most →
+      (x : ℕ) → x < 16 → (d : V) → Running (Candidate s x) (gives R s cuts q) (most x) i (best_of (slice_index_or row x None) (slice_index_or cells (function_cell f x) d))
 
 -- All cells but those that pass the test are as they were.
 abbrev pub OnlyAt : {T : Type 0} → (ℕ → Type 0) → List T → List T → Type 0

@@ -5,10 +5,12 @@ mod cutting;
 mod functions;
 mod place;
 mod places;
+mod rooted;
 mod sending;
 mod upward;
 mod variables;
 
 pub use place::Place;
 pub use places::Places;
+pub use rooted::RootedForest;
 pub use sending::send_messages;

@@ -2,42 +2,41 @@
 ghost use Rattle.std.specs.Prelude.{◌≡◌, ℕ, ◌<◌, ◌≤◌, take, slice_index};
 ghost use Rattle.theory.specs.Problem.{product, index};
 ghost use Rattle.messages.specs.Combinations.{combination, cleared};
-ghost use Rattle.messages.specs.Places.{place_in, sizes_in, cut_index};
+ghost use Rattle.messages.specs.Places.{place_in, count_in, sizes_in, cut_index};
 
 use crate::places::Places;
+use layout::MOST_PLACES;
 
 impl Places {
     // From the last place on, each value is what the size of its place leaves over.
-    fn unpacked(&self, index: usize) -> [usize; 4]
-        ensures values { index < product (sizes_in self.now) → take self.now.count result ≡ combination (sizes_in self.now) index }
-        ensures small { (p : ℕ) → p < self.now.count → slice_index result p < (place_in self.now p).size }
+    fn unpacked(&self, index: usize) -> [usize; MOST_PLACES]
+        ensures values { index < product (sizes_in self.now) → take (count_in self.now) result ≡ combination (sizes_in self.now) index }
+        ensures small { (p : ℕ) → p < count_in self.now → slice_index result p < (place_in self.now p).size }
     {
-        let mut values = [0; 4];
+        let mut values = [0; MOST_PLACES];
         let mut rest = index;
-        for p in (0..self.count).rev() {
-            let size = self.list[p].size;
-            values[p] = rest % size;
-            rest /= size;
+        for (p, place) in self.list().iter().enumerate().rev() {
+            values[p] = rest % place.size;
+            rest /= place.size;
         }
         values
     }
 
     // The values at the places, where the entry at an index stands; 0 past the last place.
-    pub fn combination(&self, index: usize) -> [usize; 4]
-        ensures values { index < product (sizes_in self.now) → take self.now.count result ≡ combination (sizes_in self.now) index }
-        ensures small { (p : ℕ) → p < self.now.count → slice_index result p < (place_in self.now p).size }
+    pub fn combination(&self, index: usize) -> [usize; MOST_PLACES]
+        ensures values { index < product (sizes_in self.now) → take (count_in self.now) result ≡ combination (sizes_in self.now) index }
+        ensures small { (p : ℕ) → p < count_in self.now → slice_index result p < (place_in self.now p).size }
     {
         self.unpacked(index)
     }
 
     // The index at which these values stand, with 0 at the removed places.
-    pub(crate) fn cut_index(&self, values: [usize; 4]) -> usize
-        requires { (p : ℕ) → p < self.now.count → slice_index values p < (place_in self.now p).size }
-        ensures { result ≡ index (sizes_in self.now) (cleared (λ p. (place_in self.now p).kept) (take self.now.count values)) }
+    pub(crate) fn cut_index(&self, values: [usize; MOST_PLACES]) -> usize
+        requires { (p : ℕ) → p < count_in self.now → slice_index values p < (place_in self.now p).size }
+        ensures { result ≡ index (sizes_in self.now) (cleared (λ p. (place_in self.now p).kept) (take (count_in self.now) values)) }
     {
         let mut index = 0;
-        for p in 0..self.count {
-            let place = self.list[p];
+        for (p, place) in self.list().iter().enumerate() {
             let value = if place.kept { values[p] } else { 0 };
             index = index * place.size + value;
         }

@@ -1,4 +1,4 @@
-use Rattle.std.proofs.Common.{◌≡◌, ℕ, ◌+◌, ◌<◌, true, false, ◌⊎◌, length, get_or, set, sym, refl, ap, ◌∙◌, subst, inl, inr, arith}
+use Rattle.std.proofs.Common.{◌≡◌, ℕ, ◌+◌, ◌<◌, cond, length, get_or, set, sym, refl, ap, ◌∙◌, subst, inl, inr, arith}
 use Rattle.std.proofs.lemmas.List.{get_or_default}
 use Rattle.theory.specs.Problem.{product}
 use Rattle.messages.specs.Places.{sizes_in, place_in, cut_index}
@@ -18,26 +18,21 @@ loop-at-preserved g c =
     let read = λ (j : ℕ). v.rules.reads (get_or c.args.table.now j 0) in
     let key_is = c.cut_index_of-key.ensures.value in
     let inside : i < product (sizes_in s) = omega (arith, c.requires.table, c.loop-at-test.true) in
-    subst (λ (n : ℕ). Lows v.rules g.met.V.Scale.laws v.rules.reads (cut_index s) read (i + 1) (set words n c.if-key-at.low)) (sym key_is)
-    (lows_step v.rules g.met.V.Scale.laws v.rules.reads (cut_index s) read i words new c.if-key-at.low
-    (omega (arith, c.requires.room, c.loop-at.auto.words))
+    subst (λ (n : ℕ). Lows v.rules g.met.V.Scale.laws v.rules.reads (cut_index s) read (i + 1) (set words n c.if-key-at.words)) (sym key_is)
+    (lows_step v.rules g.met.V.Scale.laws v.rules.reads (cut_index s) read i words new c.if-key-at.words
+    (omega (arith, c.requires.words, c.loop-at.auto.words))
     (key_low test (sizes_in s) i inside)
     (key_twice test (sizes_in s) i inside)
     (λ j h. key_low test (sizes_in s) j (omega arith))
     c.loop-at.invariant
     refl
     (elim c.if-key-at.branch [
-      | then-key-at w ↦ inl (sym key_is ∙ w.if-key-at.true, w.low-is)
+      | then-key-at w ↦ inl (sym key_is ∙ w.if-key-at.true, w.words-is)
       | else-key-at w ↦ inr (
         λ e. w.if-key-at.false (key_is ∙ e),
         λ d.
-            let old = get_or_default words c.cut_index_of-key.result 0 d (omega (arith, c.requires.room, c.loop-at.auto.words, c.cut_index_of-key.ensures.low)) ∙ ap (λ (n : ℕ). get_or words n d) key_is in
-            subst (λ (o : ℕ).
-            ((true ≡ v.rules.leq (v.rules.reads new) (v.rules.reads o)) × (c.if-key-at.low ≡ new))
-            ⊎ ((false ≡ v.rules.leq (v.rules.reads new) (v.rules.reads o)) × (c.if-key-at.low ≡ o))) old
-            (subst (λ (r : ℕ).
-            ((true ≡ v.rules.leq (v.rules.reads new) (v.rules.reads (get_or words c.cut_index_of-key.result 0))) × (r ≡ new))
-            ⊎ ((false ≡ v.rules.leq (v.rules.reads new) (v.rules.reads (get_or words c.cut_index_of-key.result 0))) × (r ≡ get_or words c.cut_index_of-key.result 0))) (sym w.low-is) w.lower-low.ensures),
+            let old = get_or_default words c.cut_index_of-key.result 0 d (omega (arith, c.requires.words, c.loop-at.auto.words, c.cut_index_of-key.ensures.low)) ∙ ap (λ (n : ℕ). get_or words n d) key_is in
+            w.words-is ∙ w.lower.ensures ∙ ap (λ (o : ℕ). cond (v.rules.leq (v.rules.reads new) (v.rules.reads o)) new o) old,
       )
     ]))
 

@@ -1,54 +1,61 @@
-use Rattle.std.proofs.Common.{◌≡◌, ℕ, ◌+◌, ◌<◌, ◌≤◌, Bool, true, false, List, length, get_or, set, sym, ap, ◌∙◌, subst, inl, inr, arith}
-use Rattle.std.proofs.lemmas.List.{get_or-take, get_or-set_same, get_or-set_other, length-set}
+use Rattle.std.proofs.Common.{◌≡◌, ℕ, ◌+◌, ◌<◌, List, length, get_or, set, Some, None, Option, sym, refl, ap, ap₂, ◌∙◌, subst, inl, inr, arith}
+use Rattle.std.proofs.lemmas.List.{get_or-take, get_or-set_same, get_or-set_other, length-set, get_or-replicate}
 use Rattle.std.proofs.lemmas.Bool.{cases_eq}
 use Rattle.scale.specs.Rules.{Rules}
 use Rattle.scale.specs.Laws.{Plain}
+use Rattle.board.specs.SameLent.{SameLent}
+use Rattle.board.proofs.SameLent.{same_self, same_both}
 use Rattle.theory.specs.Problem.{product}
 use Rattle.messages.specs.declared.places.Places.{Places}
 use Rattle.messages.specs.Combinations.{combination}
-use Rattle.messages.specs.Counts.{counts}
-use Rattle.messages.specs.Holding.{StandsFor}
-use Rattle.messages.specs.Places.{place_in, sizes_in, cut_index}
-use Rattle.messages.specs.Sent.{variable_cell, function_cell, choice_cell}
-use Rattle.messages.specs.Upward.{gives, best_at, Best, Candidate, BelowHeld, Supplied, With, Running, BestEntries, OnlyAt}
-use Rattle.messages.proofs.Joining.{join_stands}
+use Rattle.joining.specs.Counts.{counts}
+use Rattle.joining.specs.Standing.{StandsFor}
+use Rattle.messages.specs.Places.{count_in, place_in, sizes_in, cut_index}
+use Rattle.messages.specs.Sent.{variable_cell, function_cell}
+use Rattle.messages.specs.Upward.{gives, best_of, better, Candidate, BelowHeld, Supplied, Running, BestEntries, OnlyAt}
+use Rattle.joining.proofs.Joining.{join_stands}
 use Rattle.messages.proofs.Running.{upward_same, passed, with_one}
 use Rattle.messages.proofs.upward.best_entries.Goals as goal
 use Rattle.messages.proofs.upward.best_entries.Goals.{then-cut_index_of-at, else-cut_index_of-at}
 
--- best entries with the same parts
-same_best : {V : Type 0} {b b' : Bool} {a a' : V} {i i' : ℕ} → b ≡ b' → a ≡ a' → i ≡ i' → ◌≡◌ {A = Best V} (record { seen = b; value = a; index = i }) (record { seen = b'; value = a'; index = i' })
-same_best d e f = cc
+pub loop-at-init : goal.loop-at-init
+loop-at-init g c =
+    let v = g.V.Scale in
+    let s = c.args.places.now in (
+      refl,
+      λ q n most given x h d.
+          subst (λ o. Running v.rules v.means v.within (Candidate s x) (gives v.rules s c.args.cuts.now q) (most x) 0 (best_of o (get_or c.args.values.now.cells.now (function_cell c.args.function x) d)))
+          (sym (get_or-replicate 16 x None None h)) (λ j low. absurd (omega arith)),
+      λ k d apart. refl,
+      same_self c.args.values.now,
+    )
 
--- What a turn keeps: the boards go from `cells` and `choices` to `cells'` and `choices'` at one value of the parent, at the index i.
-module _ {V E : Type 0} (R : Rules E) (L : Plain R) (means : V → E) (within : ℕ → V → Type 0) (wider : (m n : ℕ) (v : V) → m ≤ n → within m v → within n v)
-    (s : Places) (f words : ℕ) (cuts : List ℕ) (before : List V) (i : ℕ) (seen : List Bool) (cells cells' : List V) (choices choices' : List ℕ) where
-  abbrev Bests : ℕ → List Bool → List V → List ℕ → Type 0
-  Bests = BestEntries R means within s f words cuts before
-
+-- What a turn keeps, at the index i.
+module _ {V E : Type 0} (R : Rules E) (L : Plain R) (means : V → E) (within : ℕ → V → Type 0) (s : Places) (f : ℕ) (cuts : List ℕ) (before : List V) (i : ℕ)
+    (row : List (Option ℕ)) (cells : List V) (so_far : BestEntries R means within s f cuts before i row cells) where
   -- no candidate stands at i
-  skipped : (cut_index s i ≡ i → ⊥) → Bests i seen cells choices → Bests (i + 1) seen cells choices
-  skipped other so_far q n most given x h d =
-      passed R L means within (Candidate s x) (gives R s cuts q) (most x) i (best_at seen cells choices f x d) (so_far q n most given x h d) (λ (k : Candidate s x i). other k.0)
+  skipped : (cut_index s i ≡ i → ⊥) → BestEntries R means within s f cuts before (i + 1) row cells
+  skipped other q n most given x h d =
+      passed R L means within (Candidate s x) (gives R s cuts q) (most x) i (best_of (get_or row x None) (get_or cells (function_cell f x) d)) (so_far q n most given x h d) (λ (k : Candidate s x i). other k.0)
 
-  module _ (x₀ : ℕ) (small : x₀ < 16) (value : V) (sixteen : length seen ≡ 16) (candidate : Candidate s x₀ i)
-      (stands : (q : ℕ → ℕ → E) (n : ℕ → ℕ → ℕ) (most : ℕ → ℕ) → Supplied R means within s words before q n most → StandsFor means within (gives R s cuts q i) (most x₀) value)
-      (here : (d : V) → With R means within (best_at seen cells choices f x₀ d) value i (record { seen = true; value = get_or cells' (function_cell f x₀) d; index = get_or choices' (choice_cell f x₀) 0 }))
-      (others : OnlyAt (λ k. k ≡ function_cell f x₀) cells cells') (others' : OnlyAt (λ k. k ≡ choice_cell f x₀) choices choices') where
-    taken : Bests i seen cells choices → Bests (i + 1) (set seen x₀ true) cells' choices'
-    taken so_far q n most given x h d = elim (cases_eq x x₀) [
+  module _ (x₀ : ℕ) (small : x₀ < 16) (value : V) (sixteen : length row ≡ 16) (candidate : Candidate s x₀ i)
+      (stands : (q : ℕ → ℕ → E) (n : ℕ → ℕ → ℕ) (most : ℕ → ℕ) → Supplied R means within s (length cuts) before q n most → StandsFor means within (gives R s cuts q i) (most x₀) value)
+      (o : Option ℕ) (cells' : List V)
+      (here : (d : V) → best_of o (get_or cells' (function_cell f x₀) d) ≡ Some (better R means (best_of (get_or row x₀ None) (get_or cells (function_cell f x₀) d)) (record { value = value; index = i })))
+      (others : OnlyAt (λ k. k ≡ function_cell f x₀) cells cells') where
+    taken : BestEntries R means within s f cuts before (i + 1) (set row x₀ o) cells'
+    taken q n most given x h d = elim (cases_eq x x₀) [
       | inl e ↦
-          let value-is : best_at (set seen x₀ true) cells' choices' f x₀ d ≡ record { seen = true; value = get_or cells' (function_cell f x₀) d; index = get_or choices' (choice_cell f x₀) 0 } =
-          ap (λ (b : Bool). record { seen = b; value = get_or cells' (function_cell f x₀) d; index = get_or choices' (choice_cell f x₀) 0 }) (get_or-set_same seen x₀ true false (omega arith)) in
-          subst (λ (y : ℕ). Running R means within (Candidate s y) (gives R s cuts q) (most y) (i + 1) (best_at (set seen x₀ true) cells' choices' f y d)) (sym e)
-          (with_one R L means within (Candidate s x₀) (gives R s cuts q) (most x₀) i candidate value (stands q n most given) (best_at seen cells choices f x₀ d) (best_at (set seen x₀ true) cells' choices' f x₀ d)
-          (so_far q n most given x₀ small d)
-          (subst (With R means within (best_at seen cells choices f x₀ d) value i) (sym value-is) (here d)))
+          subst (λ (y : ℕ). Running R means within (Candidate s y) (gives R s cuts q) (most y) (i + 1) (best_of (get_or (set row x₀ o) y None) (get_or cells' (function_cell f y) d))) (sym e)
+          (subst (λ t. Running R means within (Candidate s x₀) (gives R s cuts q) (most x₀) (i + 1) (best_of t (get_or cells' (function_cell f x₀) d))) (sym (get_or-set_same row x₀ o None (omega arith)))
+          (subst (Running R means within (Candidate s x₀) (gives R s cuts q) (most x₀) (i + 1)) (sym (here d))
+          (with_one R L means within (Candidate s x₀) (gives R s cuts q) (most x₀) i candidate value (stands q n most given)
+          (best_of (get_or row x₀ None) (get_or cells (function_cell f x₀) d)) (so_far q n most given x₀ small d))))
       | inr apart ↦
-          let same : best_at (set seen x₀ true) cells' choices' f x d ≡ best_at seen cells choices f x d =
-          same_best (get_or-set_other seen x₀ x true false apart) (others (function_cell f x) d (λ k. apart (omega arith))) (others' (choice_cell f x) 0 (λ k. apart (omega arith))) in
-          subst (Running R means within (Candidate s x) (gives R s cuts q) (most x) (i + 1)) (sym same)
-          (passed R L means within (Candidate s x) (gives R s cuts q) (most x) i (best_at seen cells choices f x d) (so_far q n most given x h d) (λ (k : Candidate s x i). apart (sym k.1 ∙ candidate.1)))
+          subst (Running R means within (Candidate s x) (gives R s cuts q) (most x) (i + 1))
+          (sym (ap₂ best_of (get_or-set_other row x₀ x o None apart) (others (function_cell f x) d (λ k. apart (omega arith)))))
+          (passed R L means within (Candidate s x) (gives R s cuts q) (most x) i (best_of (get_or row x None) (get_or cells (function_cell f x) d)) (so_far q n most given x h d)
+          (λ (k : Candidate s x i). apart (sym k.1 ∙ candidate.1)))
     ]
 
 -- a change at one cell of a row is a change in the row
@@ -60,98 +67,65 @@ pub loop-at-preserved : goal.loop-at-preserved
 loop-at-preserved g c =
     let v = g.V.Scale in
     let laws = g.met.V.Scale.laws in
-    let wider = g.met.V.Scale.ties.wider in
     let s = c.args.places.now in
     let i = c.loop-at.at in
     let f = c.args.function in
-    let words = c.args.words in
     let cuts = c.args.cuts.now in
     let before = c.args.values.now.cells.now in
+    let row = c.loop-at.best in
+    let cells = c.loop-at.values.cells.now in
     let inv = c.loop-at.invariant in
+    let Bests : List (Option ℕ) → List g.row.V.Denot → Type 0 = BestEntries v.rules v.means v.within s f cuts before (i + 1) in
     elim c.if-cut_index_of-at.branch [
       | then-cut_index_of-at w ↦
           let own : cut_index s i ≡ i = sym c.cut_index_of.ensures.value ∙ w.if-cut_index_of-at.true in
           let xs = w.combination-combination.result in
           let ys = combination (sizes_in s) i in
-          let inside : i < product (sizes_in s) = omega (arith, c.requires.words, c.loop-at-test.true) in
+          let inside : i < product (sizes_in s) = omega (arith, c.requires.cuts, c.loop-at-test.true) in
           let values = w.combination-combination.ensures.values inside in
-          let same : (p : ℕ) → p < s.count → get_or xs p 0 ≡ get_or ys p 0 = λ p h. sym (get_or-take s.count xs p 0 h) ∙ ap (λ (zs : List ℕ). get_or zs p 0) values in
+          let same : (p : ℕ) → p < count_in s → get_or xs p 0 ≡ get_or ys p 0 = λ p h. sym (get_or-take (count_in s) xs p 0 h) ∙ ap (λ (zs : List ℕ). get_or zs p 0) values in
           let x₀ = get_or xs s.parent 0 in
           let fits = w.combination-combination.ensures.small s.parent c.requires.parent in
           let small : x₀ < 16 = omega (arith, (s.small s.parent c.requires.parent).2) in
-          let x₀-is = same s.parent c.requires.parent in
-          let told = w.consider.ensures in
-          let values' = w.consider.new.values in
-          let choices' = w.consider.new.choices in
-          let cells = c.loop-at.values.cells.now in
-          let unmoved : (p x : ℕ) → p < s.count → x < 16 → (d : g.row.V.Denot) → get_or cells (variable_cell (place_in s p).variable x) d ≡ get_or before (variable_cell (place_in s p).variable x) d =
+          let candidate : Candidate s x₀ i = (own, sym (same s.parent c.requires.parent)) in
+          let unmoved : (p x : ℕ) → p < count_in s → x < 16 → (d : g.row.V.Denot) → get_or cells (variable_cell (place_in s p).variable x) d ≡ get_or before (variable_cell (place_in s p).variable x) d =
           λ p x h k d. inv.2 (variable_cell (place_in s p).variable x) d (λ (y, low, e). absurd (omega (arith, (s.small p h).0))) in
-          let stands : (q : ℕ → ℕ → v.Exact) (n : ℕ → ℕ → ℕ) (most : ℕ → ℕ) → Supplied v.rules v.means v.within s words before q n most →
+          let stands : (q : ℕ → ℕ → v.Exact) (n : ℕ → ℕ → ℕ) (most : ℕ → ℕ) → Supplied v.rules v.means v.within s (length cuts) before q n most →
           StandsFor v.means v.within (gives v.rules s cuts q i) (most x₀) w.join-value.result = λ q n most given.
-          let few = given.few x₀ i c.loop-at-test.true (own, sym x₀-is) in
+          let few = given.few x₀ i c.loop-at-test.true candidate in
           let most-small = given.small x₀ in
-          let counted = upward_same counts s n xs ys s.count same in
+          let counted = upward_same counts s n xs ys (count_in s) same in
           let held : BelowHeld v.rules v.means v.within s cells q n = λ p x h on k d.
           subst (StandsFor v.means v.within (q (place_in s p).variable x) (n (place_in s p).variable x)) (sym (unmoved p x h (omega (arith, (s.small p h).2)) d)) (given.below p x h on k d) in
           let below = w.from_below.ensures q n held (omega arith) in
           let entry : StandsFor v.means v.within (v.rules.reads (get_or cuts i 0)) 1 w.value_of.result = record { exact = w.value_of.ensures.means; few = w.value_of.ensures.within } in
           let joined = join_stands v.rules v.means v.within entry below (omega arith) w.join-value.ensures in
           record {
-            exact = joined.exact ∙ ap (v.rules.join (v.rules.reads (get_or cuts i 0))) (upward_same v.rules s q xs ys s.count same);
-            few = wider _ (most x₀) w.join-value.result (omega arith) joined.few;
+            exact = joined.exact ∙ ap (v.rules.join (v.rules.reads (get_or cuts i 0))) (upward_same v.rules s q xs ys (count_in s) same);
+            few = g.met.V.Scale.ties.wider _ (most x₀) w.join-value.result (omega arith) joined.few;
           } in
-          let bests = taken v.rules laws v.means v.within wider s f words cuts before i c.loop-at.seen cells values'.cells.now c.loop-at.choices.cells.now choices'.cells.now
-          x₀ small w.join-value.result inv.0 (own, sym x₀-is) stands told.here told.values told.choices inv.1 in
-          let Bests-now = BestEntries v.rules v.means v.within s f words cuts before (i + 1) in (
-            ap length w.seen-is ∙ length-set c.loop-at.seen x₀ true ∙ inv.0,
-            subst (λ (b : List Bool). Bests-now b c.if-cut_index_of-at.values.cells.now c.if-cut_index_of-at.choices.cells.now) (sym w.seen-is)
-                (subst (λ b. Bests-now (set c.loop-at.seen x₀ true) b.cells.now c.if-cut_index_of-at.choices.cells.now) (sym w.values-is)
-                (subst (λ b. Bests-now (set c.loop-at.seen x₀ true) values'.cells.now b.cells.now) (sym w.choices-is) bests)),
+          let told = w.consider.ensures in
+          let cells' = w.consider.new.values.cells.now in
+          let bests = taken v.rules laws v.means v.within s f cuts before i row cells inv.1 x₀ small w.join-value.result inv.0 candidate stands w.consider.result cells' told.here told.values in (
+            ap length w.best-is ∙ length-set row x₀ w.consider.result ∙ inv.0,
+            subst (λ b. Bests b c.if-cut_index_of-at.values.cells.now) (sym w.best-is) (subst (λ b. Bests (set row x₀ w.consider.result) b.cells.now) (sym w.values-is) bests),
             subst (λ b. OnlyAt (λ k. (x : ℕ) × (x < (place_in s s.parent).size) × (k ≡ function_cell f x)) before b.cells.now) (sym w.values-is)
-                (only_row (function_cell f) (place_in s s.parent).size x₀ before cells values'.cells.now fits inv.2 told.values),
-            subst (λ b. OnlyAt (λ k. (x : ℕ) × (x < (place_in s s.parent).size) × (k ≡ choice_cell f x)) c.args.choices.now.cells.now b.cells.now) (sym w.choices-is)
-                (only_row (choice_cell f) (place_in s s.parent).size x₀ c.args.choices.now.cells.now c.loop-at.choices.cells.now choices'.cells.now fits inv.3 told.choices),
-            ap (λ b. b.rows) w.values-is ∙ told.rows.0 ∙ inv.4,
-            ap (λ b. b.rows) w.choices-is ∙ told.rows.1 ∙ inv.5,
-            ap (λ b. length b.cells.now) w.values-is ∙ told.long.0 ∙ inv.6,
-            ap (λ b. length b.cells.now) w.choices-is ∙ told.long.1 ∙ inv.7,
-            ap (λ b. b.cells.ghost_name) w.values-is ∙ told.lent.0 ∙ inv.8,
-            ap (λ b. b.cells.ghost_name) w.choices-is ∙ told.lent.1 ∙ inv.9,
+                (only_row (function_cell f) (place_in s s.parent).size x₀ before cells cells' fits inv.2 told.values),
+            subst (SameLent c.args.values.now) (sym w.values-is) (same_both inv.3 told.same),
           )
       | else-cut_index_of-at w ↦
           let other : cut_index s i ≡ i → ⊥ = λ e. w.if-cut_index_of-at.false (c.cut_index_of.ensures.value ∙ e) in
-          let cells = c.loop-at.values.cells.now in
-          let choices = c.loop-at.choices.cells.now in
-          let bests = skipped v.rules laws v.means v.within wider s f words cuts before i c.loop-at.seen cells cells choices choices other inv.1 in
-          let Bests-now = BestEntries v.rules v.means v.within s f words cuts before (i + 1) in (
-            ap length w.seen-is ∙ inv.0,
-            subst (λ (b : List Bool). Bests-now b c.if-cut_index_of-at.values.cells.now c.if-cut_index_of-at.choices.cells.now) (sym w.seen-is)
-                (subst (λ b. Bests-now c.loop-at.seen b.cells.now c.if-cut_index_of-at.choices.cells.now) (sym w.values-is)
-                (subst (λ b. Bests-now c.loop-at.seen cells b.cells.now) (sym w.choices-is) bests)),
+          let bests = skipped v.rules laws v.means v.within s f cuts before i row cells inv.1 other in (
+            ap length w.best-is ∙ inv.0,
+            subst (λ b. Bests b c.if-cut_index_of-at.values.cells.now) (sym w.best-is) (subst (λ b. Bests row b.cells.now) (sym w.values-is) bests),
             subst (λ b. OnlyAt (λ k. (x : ℕ) × (x < (place_in s s.parent).size) × (k ≡ function_cell f x)) before b.cells.now) (sym w.values-is) inv.2,
-            subst (λ b. OnlyAt (λ k. (x : ℕ) × (x < (place_in s s.parent).size) × (k ≡ choice_cell f x)) c.args.choices.now.cells.now b.cells.now) (sym w.choices-is) inv.3,
-            ap (λ b. b.rows) w.values-is ∙ inv.4,
-            ap (λ b. b.rows) w.choices-is ∙ inv.5,
-            ap (λ b. length b.cells.now) w.values-is ∙ inv.6,
-            ap (λ b. length b.cells.now) w.choices-is ∙ inv.7,
-            ap (λ b. b.cells.ghost_name) w.values-is ∙ inv.8,
-            ap (λ b. b.cells.ghost_name) w.choices-is ∙ inv.9,
+            subst (SameLent c.args.values.now) (sym w.values-is) inv.3,
           )
     ]
 
-pub returns : goal.returns
-returns g c =
+pub returns-clause-best : goal.returns-clause-best
+returns-clause-best g c =
     let v = g.V.Scale in
-    let inv = c.loop-at.invariant in
-    let s = c.args.places.now in
-    let words = c.args.words in
-    let cuts = c.args.cuts.now in
-    let end : c.loop-at.at ≡ words = omega (arith, c.loop-at-test.false, c.loop-at.auto.at-end) in
-    record {
-      best = (c.loop-at.seen, subst (λ (i : ℕ). BestEntries v.rules v.means v.within s c.args.function words cuts c.args.values.now.cells.now i c.loop-at.seen c.loop-at.values.cells.now c.loop-at.choices.cells.now) end inv.1);
-      values = inv.2;
-      choices = inv.3;
-      rows = (inv.4, inv.5);
-      long = (inv.6, inv.7);
-      lent = (inv.8, inv.9);
-    }
+    let end : c.loop-at.at ≡ length c.args.cuts.now = omega (arith, c.loop-at-test.false, c.loop-at.auto.at-end) in
+    subst (λ (i : ℕ). BestEntries v.rules v.means v.within c.args.places.now c.args.function c.args.cuts.now c.args.values.now.cells.now i c.loop-at.best c.loop-at.values.cells.now) end
+    c.loop-at.invariant.1

@@ -1,8 +1,9 @@
-use Rattle.std.proofs.Common.{◌≡◌, ℕ, ◌+◌, ◌<◌, ◌≤◌, List, length, get_or, set, sym, ap, ◌∙◌, subst, inl, inr, arith}
-use Rattle.std.proofs.lemmas.List.{get_or-set_same, get_or-set_other, length-set}
+use Rattle.std.proofs.Common.{◌≡◌, ℕ, ◌+◌, ◌<◌, ◌≤◌, List, length, get_or, set, sym, ◌∙◌, subst, inl, inr, arith}
+use Rattle.std.proofs.lemmas.List.{get_or-set_same, get_or-set_other}
 use Rattle.std.proofs.lemmas.Bool.{cases_eq}
+use Rattle.board.proofs.SameLent.{same_both}
 use Rattle.scale.specs.Rules.{Rules}
-use Rattle.messages.specs.Holding.{JoinOf}
+use Rattle.joining.specs.Standing.{JoinOf}
 use Rattle.messages.specs.Sent.{variable_cell, function_cell}
 use Rattle.messages.specs.Upward.{OnlyAt}
 use Rattle.messages.proofs.variables.join_row.Goals as goal
@@ -42,7 +43,7 @@ loop-x-preserved g c =
     let x = c.loop-x.x in
     let sum = c.join-sum.result in
     let low : x < 16 = omega (arith, c.requires.size, c.loop-x-test.true) in
-    let room : 2048 ≤ length cells = let whole = c.loop-x.values.whole in omega (arith, c.requires.rows, inv.2) in
+    let room : 2048 ≤ length cells = let whole = c.loop-x.values.whole in omega (arith, c.requires.values, inv.2.rows) in
     let after = c.put.ensures.after in
     let joined = joined_next v.rules v.means v.within u f x c.requires.variable low before cells room inv.0 inv.1 c.get.result c.get-in-loop-x.result sum
     c.get.ensures c.get-in-loop-x.ensures c.join-sum.ensures in
@@ -50,9 +51,7 @@ loop-x-preserved g c =
     c.get.ensures c.get-in-loop-x.ensures c.join-sum.ensures in (
       subst (λ (cs : List g.row.V.Denot). (y : ℕ) (d : g.row.V.Denot) → y < x + 1 → JoinOf v.rules v.means v.within (get_or before (variable_cell u y) d) (get_or before (function_cell f y) d) (get_or cs (variable_cell u y) d)) (sym after) joined,
       subst (OnlyAt (λ k. (y : ℕ) × (y < x + 1) × (k ≡ variable_cell u y)) before) (sym after) only,
-      c.put.ensures.rows ∙ inv.2,
-      ap length after ∙ length-set cells (variable_cell u x) sum ∙ inv.3,
-      c.put.ensures.lent ∙ inv.4,
+      same_both inv.2 c.put.ensures.same,
     )
 
 pub returns : goal.returns
@@ -63,7 +62,5 @@ returns g c =
     record {
       joined = λ x d h. inv.0 x d (omega arith);
       values = λ k d apart. inv.1 k d (λ (x, low, e). apart (x, omega arith, e));
-      rows = inv.2;
-      long = inv.3;
-      lent = inv.4;
+      same = inv.2;
     }

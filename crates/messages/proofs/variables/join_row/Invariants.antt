@@ -1,5 +1,6 @@
-use Rattle.std.proofs.Common.{◌≡◌, ℕ, ◌<◌, length, get_or}
-use Rattle.messages.specs.Holding.{JoinOf}
+use Rattle.std.proofs.Common.{◌≡◌, ℕ, ◌<◌, get_or}
+use Rattle.board.specs.SameLent.{SameLent}
+use Rattle.joining.specs.Standing.{JoinOf}
 use Rattle.messages.specs.Sent.{variable_cell, function_cell}
 use Rattle.messages.specs.Upward.{OnlyAt}
 use Rattle.messages.proofs.variables.join_row.Given as goal
@@ -10,6 +11,4 @@ invariant-loop-x g l =
     let before = l.initial.values.cells.now in
     ((x : ℕ) (d : g.row.V.Denot) → x < l.x → JoinOf v.rules v.means v.within (get_or before (variable_cell l.variable x) d) (get_or before (function_cell l.function x) d) (get_or l.values.cells.now (variable_cell l.variable x) d))
     × OnlyAt (λ k. (x : ℕ) × (x < l.x) × (k ≡ variable_cell l.variable x)) before l.values.cells.now
-    × (l.values.rows ≡ l.initial.values.rows)
-    × (length l.values.cells.now ≡ length before)
-    × (l.values.cells.ghost_name ≡ l.initial.values.cells.ghost_name)
+    × SameLent l.initial.values l.values
