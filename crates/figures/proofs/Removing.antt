@@ -1,45 +1,51 @@
--- The weights of the links that pass a test, joined one by one. Assumes nothing.
-use Rattle.std.proofs.Common.{◌≡◌, ℕ, ◌+◌, ◌*◌, ◌/◌, ◌%◌, ◌<◌, Bool, true, false, ◌&&◌, ltb, List, length, get_or, sym, ap, ◌∙◌, ap₂, arith}
+-- The weights of the removed links, joined. Assumes nothing.
+use Rattle.std.proofs.Common.{◌≡◌, ℕ, ◌*◌, ◌/◌, ◌%◌, ◌<◌, ◌≤◌, Bool, true, false, ◌&&◌, ltb, Some, None, Option, List, length, get_or, sym, ap, ◌∙◌, subst, arith}
 use Rattle.std.proofs.lemmas.List.{get_or-map}
 use Rattle.scale.specs.Rules.{Rules}
-use Rattle.scale.specs.Laws.{Plain, EntryLaws}
+use Rattle.scale.specs.Laws.{EntryLaws}
 use Rattle.theory.specs.Joins.{joins, when}
 use Rattle.theory.specs.Graphs.{set_weight}
 use Rattle.theory.specs.Links.{graph, is_link}
-use Rattle.theory.proofs.Joins.{joins_more, joins_cong}
+use Rattle.theory.proofs.Joins.{joins_cong}
 use Rattle.forest.specs.FactorGraph.{layout_graph}
+use Rattle.layout.specs.declared.layout.Layout.{Layout}
 use Rattle.layout.specs.View.{domains_of, scopes_of}
 use Rattle.keeping.specs.Weights.{weight_of}
+use Rattle.joining.specs.Counts.{counts}
+use Rattle.joining.specs.Standing.{StandsFor}
+use Rattle.joining.proofs.Counting.{joins_bound}
+use Rattle.joining.proofs.Joining.{stands_for, when_true, when_false}
 use Rattle.tables.specs.declared.tables.Tables.{Tables}
 use Rattle.tables.specs.View.{problem_of}
 use Rattle.tables.proofs.Ordered.{scope_is, functions_length}
+use Rattle.joining.specs.Given.{Gives, JoinOfGiven}
+use Rattle.figures.specs.Removed.{is_removed, RemovedWeight}
 
-module _ {V E : Type 0} (R : Rules E) (means : V → E) (within : ℕ → V → Type 0) (test : ℕ → Bool) (weights : List V) where
-  -- r stands for the weights of those of the first n links that pass, of two entries each
-  abbrev pub JoinedBelow : ℕ → V → Type 0
-  JoinedBelow n r = (means r ≡ joins R n (λ i. when R (test i) (weight_of R means weights i))) × within (2 * n) r
+module _ {V E : Type 0} (R : Rules E) (means : V → E) (within : ℕ → V → Type 0) (l : Layout) (words : List ℕ) (weights : List V)
+    (long : length weights ≡ 256) (few : (n : ℕ) (d : V) → n < 256 → within 2 (get_or weights n d)) where
+  -- what is given of a number is its part of the weight, of two entries
+  member : (n : ℕ) (o : Option V) → n < 256 → RemovedWeight l words weights n o →
+      Gives R means within (when R (is_removed l words n) (weight_of R means weights n)) (when counts (is_removed l words n) 2) o
+  member n None low other = (when_false R (weight_of R means weights n) other, when_false counts 2 other)
+  member n (Some r) low (removed, is) =
+      stands_for R means within (sym (when_true R (weight_of R means weights n) removed)) (sym (when_true counts 2 removed)) (record {
+        exact = ap means (is r) ∙ sym (get_or-map means weights n r R.neutral (omega arith));
+        few = subst (within 2) (sym (is r)) (few n r low);
+      })
 
-  pub joined_none : (r : V) → means r ≡ R.neutral → within 0 r → JoinedBelow 0 r
-  unfolding joins
-  joined_none r is few = (is, few)
+  two_each : (b : Bool) → when counts b 2 ≤ 2
+  two_each true = omega arith
+  two_each false = omega arith
 
-  module _ (L : Plain R) (ties : EntryLaws R within) (n : ℕ) (old : V) (so_far : JoinedBelow n old) where
-    -- the link n passes, and weighs x
-    pub joined_more : (x new : V) → n < length weights → x ≡ get_or weights n x → test n ≡ true → means new ≡ R.join (means old) (means x) → within (2 * n + 2) new → JoinedBelow (n + 1) new
-    joined_more x new there is passes exact few =
-        let own : means x ≡ weight_of R means weights n = ap means is ∙ sym (get_or-map means weights n x R.neutral there) in
-        let member : means x ≡ when R (test n) (weight_of R means weights n) = own ∙ ap (λ (b : Bool). when R b (weight_of R means weights n)) (sym passes) in (
-          exact ∙ ap₂ R.join so_far.0 member ∙ sym (joins_more R n (λ i. when R (test i) (weight_of R means weights i))),
-          ties.wider (2 * n + 2) (2 * (n + 1)) new (omega arith) few,
-        )
-
-    -- the link n does not pass
-    pub joined_same : test n ≡ false → JoinedBelow (n + 1) old
-    joined_same fails =
-        let member : R.neutral ≡ when R (test n) (weight_of R means weights n) = ap (λ (b : Bool). when R b (weight_of R means weights n)) (sym fails) in (
-          sym (L.unit (means old)) ∙ ap₂ R.join so_far.0 member ∙ sym (joins_more R n (λ i. when R (test i) (weight_of R means weights i))),
-          ties.wider (2 * n) (2 * (n + 1)) old (omega arith) so_far.1,
-        )
+  -- Joined, they are the weight.
+  pub weights_joined : EntryLaws R within → (gives : ℕ → Option V → Type 0) (r : V) (count : ℕ) → count ≤ 256 → JoinOfGiven R means within count gives r →
+      ((n : ℕ) (o : Option V) → n < count → gives n o → RemovedWeight l words weights n o) →
+      StandsFor means within (joins R count (λ n. when R (is_removed l words n) (weight_of R means weights n))) 512 r
+  weights_joined ties gives r count small joined each =
+      let bound = joins_bound count 2 (λ n. when counts (is_removed l words n) 2) (λ n h. two_each (is_removed l words n)) in
+      let sum = joined (λ n. when R (is_removed l words n) (weight_of R means weights n)) (λ n. when counts (is_removed l words n) 2)
+      (λ n o h given. member n o (omega arith) (each n o h given)) (omega arith) in
+      record { exact = sum.exact; few = ties.wider (joins counts count (λ n. when counts (is_removed l words n) 2)) 512 r (omega arith) sum.few }
 
 module _ {E : Type 0} (R : Rules E) (t : Tables) (w : ℕ → E) (S : ℕ → Bool) where
   -- the links of the layout are those of the problem

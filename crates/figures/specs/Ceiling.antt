@@ -1,7 +1,7 @@
 -- The ceiling, by what it is joined of. Assumes nothing.
 use Rattle.std.specs.Prelude.{ℕ}
 use Rattle.scale.specs.Rules.{Rules}
-use Rattle.messages.specs.Holding.{StandsFor}
+use Rattle.joining.specs.Standing.{StandsFor}
 
 -- If `tree` stands for the tree value e and `removed` for the weight d of the removed links, r stands for their join. (Each of at most 64 functions counts
 -- one entry, and each of at most 256 links two.)

@@ -1,23 +1,36 @@
 // The weight of the removed links.
-ghost use Rattle.std.specs.Prelude.{◌≡◌, ℕ, ◌*◌, ◌<◌, ◌&&◌, length, slice_index_or};
+ghost use Rattle.std.specs.Prelude.{◌≡◌, ℕ, ◌*◌, ◌<◌, length, slice_index_or};
 ghost use Rattle.theory.specs.Graphs.{outside, set_weight};
 ghost use Rattle.theory.specs.Kept.{kept_at};
 ghost use Rattle.theory.specs.Links.{graph};
 ghost use Rattle.layout.specs.View.{scopes_of};
 ghost use Rattle.tables.specs.View.{problem_of};
-ghost use Rattle.forest.specs.FactorGraph.{layout_graph};
 ghost use Rattle.keeping.specs.Weights.{weight_of};
+ghost use Rattle.figures.specs.Removed.{is_removed, RemovedWeight};
 
 use forest::{Links, is_link};
-use layout::Layout;
+use joining::joined;
+use layout::{Layout, MOST_PLACES};
 use scale::Scale;
 use tables::Tables;
 
 // Whether there is a link of this number that is not kept.
 fn is_removed(layout: &Layout, kept: &Links, link: usize) -> bool
-    ensures { result ≡ ((layout_graph layout.now).present link && outside (kept_at kept.now.words) link) }
+    ensures { result ≡ is_removed layout.now kept.now.words link }
 {
     is_link(layout, link) && !kept.holds(link)
+}
+
+// The weight of a removed link; nothing for a number of none.
+fn removed_at<V: Scale>(tables: &Tables, kept: &Links, weights: &[V], link: usize) -> Option<V>
+    requires { link < length weights.now }
+    ensures { RemovedWeight tables.now.layout kept.now.words weights.now link result }
+{
+    if is_removed(&tables.layout, kept, link) {
+        Some(weights[link])
+    } else {
+        None
+    }
 }
 
 // The weights of the removed links among the numbers below `links`, joined in number order.
@@ -28,13 +41,7 @@ fn removed_below<V: Scale>(tables: &Tables, kept: &Links, weights: &[V], links: 
     ensures exact { V.Scale.means result ≡ set_weight V.Scale.rules (graph (problem_of tables.now)) (weight_of V.Scale.rules V.Scale.means weights.now) (outside (kept_at kept.now.words)) }
     ensures within { V.Scale.within 512 result }
 {
-    let mut joined = V::neutral();
-    for link in 0..links {
-        if is_removed(&tables.layout, kept, link) {
-            joined = joined.join(weights[link]);
-        }
-    }
-    joined
+    joined(links, |link| removed_at(tables, kept, weights, link))
 }
 
 // The weights of the links that are not kept, joined in number order; neutral if there are none.
@@ -44,5 +51,6 @@ pub fn removed_weight<V: Scale>(tables: &Tables, kept: &Links, weights: &[V]) ->
     ensures exact { V.Scale.means result ≡ set_weight V.Scale.rules (graph (problem_of tables.now)) (weight_of V.Scale.rules V.Scale.means weights.now) (outside (kept_at kept.now.words)) }
     ensures within { V.Scale.within 512 result }
 {
-    removed_below(tables, kept, weights, 4 * tables.layout.functions())
+    let links = MOST_PLACES * tables.layout.functions();
+    removed_below(tables, kept, weights, links)
 }

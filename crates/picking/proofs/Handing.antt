@@ -1,5 +1,5 @@
 -- Values handed to variables: to those below a function place by place, and to a root. Assumes nothing.
-use Rattle.std.proofs.Common.{◌≡◌, ℕ, ◌+◌, ◌<◌, true, false, List, length, get_or, set, sym, refl, ap, ◌∙◌, subst, inl, inr, arith, length-set}
+use Rattle.std.proofs.Common.{◌≡◌, ℕ, ◌+◌, ◌<◌, true, false, List, length, get_or, set, sym, refl, ap, ◌∙◌, subst, inl, inr, arith}
 use Rattle.std.proofs.lemmas.List.{get_or-set_same, get_or-set_other}
 use Rattle.std.proofs.lemmas.Bool.{both_ways, cases_eq}
 use Rattle.scale.specs.Rules.{Rules}
@@ -8,16 +8,7 @@ use Rattle.theory.specs.Forest.{Hanging, is_root}
 use Rattle.rules.specs.Figures.{planned}
 use Rattle.messages.specs.declared.places.Places.{Places}
 use Rattle.messages.specs.Places.{place_in}
-use Rattle.picking.specs.Steps.{SmallPlan, Handed, LowestBest, RootGiven}
-
-pub small_set : (plan : List ℕ) (v x : ℕ) → SmallPlan plan → v < 64 → x < 16 → SmallPlan (set plan v x)
-small_set plan v x small h k = record {
-  long = length-set plan v x ∙ small.long;
-  small = λ u. elim (cases_eq u v) [
-    | inl e ↦ subst (λ (n : ℕ). n < 16) (sym (ap (λ (i : ℕ). planned (set plan v x) i) e ∙ get_or-set_same plan v x 0 (omega (arith, small.long)))) k
-    | inr d ↦ subst (λ (n : ℕ). n < 16) (sym (get_or-set_other plan v u x 0 d)) (small.small u)
-  ];
-}
+use Rattle.picking.specs.Steps.{Handed, LowestBest, RootGiven}
 
 module _ (s : Places) (values before : List ℕ) where
   pub none_handed : Handed s values 0 before before

@@ -7,7 +7,8 @@ use Rattle.theory.specs.Forest.{Hanging, above}
 use Rattle.theory.specs.Messages.{Messages}
 use Rattle.theory.proofs.Plans.{nothing}
 use Rattle.rules.specs.Report.{Takes}
-use Rattle.messages.specs.Counts.{counts, one_entry}
+use Rattle.joining.specs.Counts.{counts}
+use Rattle.messages.specs.Counts.{one_entry}
 use Rattle.messages.specs.Sent.{Sent, choice_cell}
 use Rattle.picking.specs.LedTo.{TakesHeld}
 

@@ -11,7 +11,8 @@ use Rattle.theory.proofs.Index.{Within, index_below}
 use Rattle.theory.proofs.Positions.{map_within}
 use Rattle.theory.proofs.Related.{leq_of_eq}
 use Rattle.messages.specs.Combinations.{sizes_at}
-use Rattle.messages.specs.Counts.{counts, one_entry}
+use Rattle.joining.specs.Counts.{counts}
+use Rattle.messages.specs.Counts.{one_entry}
 use Rattle.messages.specs.Positions.{value_at}
 use Rattle.messages.specs.Sent.{Sent, variable_cell, choice_cell}
 use Rattle.messages.proofs.Combining.{combination_of}

@@ -1,33 +1,45 @@
 -- What the variables below a function are given, from the function's places to the problem. Assumes nothing.
-use Rattle.std.proofs.Common.{◌≡◌, ℕ, ◌<◌, Bool, List, get_or, take, Some, sym, ap, ◌∙◌, subst, ap₂, arith}
+use Rattle.std.proofs.Common.{◌≡◌, ℕ, ◌<◌, List, get_or, take, Some, sym, ap, ◌∙◌, subst, ap₂, arith}
 use Rattle.std.proofs.lemmas.List.{get_or-take}
 use Rattle.theory.specs.Problem.{Problem, Sound, variables, functions, size, arity, at, product}
-use Rattle.theory.specs.Forest.{Hanging, WellHung}
+use Rattle.theory.specs.Forest.{Hanging}
 use Rattle.theory.proofs.Hangs.{hangs_from, hangs_test}
 use Rattle.rules.specs.Figures.{planned}
+use Rattle.tables.proofs.Ordered.{within_sizes}
+use Rattle.messages.specs.declared.rooted.RootedForest.{RootedForest}
+use Rattle.messages.specs.Rooted.{Rooted, problem_in, kept_in, hanging_in}
 use Rattle.messages.specs.declared.place.Place.{Place}
 use Rattle.messages.specs.declared.places.Places.{Places}
 use Rattle.messages.specs.Combinations.{combination, sizes_at}
-use Rattle.messages.specs.Places.{PlacesOf, place_in, sizes_in}
+use Rattle.messages.specs.Places.{PlacesOf, count_in, place_in, sizes_in}
 use Rattle.messages.specs.Positions.{value_at}
 use Rattle.messages.specs.Sent.{choice_cell}
 use Rattle.messages.proofs.OfPlaces.{sizes_are, parent_is}
 use Rattle.picking.specs.Steps.{ValueAt, Handed, BelowGiven, chosen_at}
 
-module _ (P : Problem) (sound : Sound P) (kept : ℕ → Bool) (H : Hanging) (f : ℕ) (known : f < functions P) (s : Places) (of : PlacesOf P kept H f s) where
-  pub distinct_places : (p q : ℕ) → p < q → q < s.count → (place_in s p).variable ≡ (place_in s q).variable → ⊥
+module _ (r : RootedForest) (f : ℕ) (known : f < functions (problem_in r)) (s : Places) (of : PlacesOf (problem_in r) (kept_in r) (hanging_in r) f s) where
+  abbrev P : Problem
+  P = problem_in r
+
+  abbrev H : Hanging
+  H = hanging_in r
+
+  sound : Sound P
+  sound = (within_sizes r.tables.now).sound
+
+  pub distinct_places : (p q : ℕ) → p < q → q < count_in s → (place_in s p).variable ≡ (place_in s q).variable → ⊥
   distinct_places p q less h e =
       let count = of.count in
       let variable = λ (x : Place). x.variable in
       let same = sound.distinct f p q known (omega arith) (omega arith) (sym (ap variable (of.each p (omega arith))) ∙ e ∙ ap variable (of.each q (omega arith))) in
       omega arith
 
-  module _ (well : WellHung P kept H) where
+  module _ (rooted : Rooted r) where
     module _ (choices values before after : List ℕ)
         (taken : get_or choices (choice_cell f (planned before (place_in s s.parent).variable)) 0 < product (sizes_in s) →
-        take s.count values ≡ combination (sizes_in s) (get_or choices (choice_cell f (planned before (place_in s s.parent).variable)) 0))
-        (fits : (p : ℕ) → p < s.count → get_or values p 0 < (place_in s p).size)
-        (handed : Handed s values s.count before after) where
+        take (count_in s) values ≡ combination (sizes_in s) (get_or choices (choice_cell f (planned before (place_in s s.parent).variable)) 0))
+        (fits : (p : ℕ) → p < count_in s → get_or values p 0 < (place_in s p).size)
+        (handed : Handed s values (count_in s) before after) where
       -- a variable that hangs from f has the value of its place
       from_place : (v p : ℕ) → H.var_parent v ≡ Some f → p < arity P f → at P f p ≡ v → planned after v ≡ get_or values p 0
       from_place v p hung h here =
@@ -42,14 +54,14 @@ module _ (P : Problem) (sound : Sound P) (kept : ℕ → Bool) (H : Hanging) (f 
       from_position p h inside =
           let count = of.count in
           let position = λ (v : ℕ). get_or choices (choice_cell f (planned before v)) 0 in
-          let low = subst (λ (sizes : List ℕ). position (place_in s s.parent).variable < product sizes) (sym (sizes_are P kept H f s of)) (subst (λ (v : ℕ). position v < product (sizes_at P f)) (sym (parent_is P kept H f s of known well)) inside) in
-          sym (get_or-take s.count values p 0 (omega arith))
+          let low = subst (λ (sizes : List ℕ). position (place_in s s.parent).variable < product sizes) (sym (sizes_are P (kept_in r) H f s of)) (subst (λ (v : ℕ). position v < product (sizes_at P f)) (sym (parent_is P (kept_in r) H f s of known rooted.well)) inside) in
+          sym (get_or-take (count_in s) values p 0 (omega arith))
           ∙ ap (λ (xs : List ℕ). get_or xs p 0) (taken low)
-          ∙ ap₂ (λ (sizes : List ℕ) (v : ℕ). get_or (combination sizes (position v)) p 0) (sizes_are P kept H f s of) (parent_is P kept H f s of known well)
+          ∙ ap₂ (λ (sizes : List ℕ) (v : ℕ). get_or (combination sizes (position v)) p 0) (sizes_are P (kept_in r) H f s of) (parent_is P (kept_in r) H f s of known rooted.well)
 
       value_given : (v : ℕ) → v < variables P → H.var_parent v ≡ Some f → ValueAt P f (chosen_at P H choices before f) v (planned after v)
       value_given v k hung =
-          let (p, h, here, is-kept) = well.var_kept v f k hung in
+          let (p, h, here, is-kept) = rooted.well.var_kept v f k hung in
           let count = of.count in
           record {
             fits =

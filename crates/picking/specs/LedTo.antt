@@ -5,7 +5,8 @@ use Rattle.theory.specs.Problem.{Problem, Plan, functions, size, position}
 use Rattle.theory.specs.Forest.{Hanging, above}
 use Rattle.theory.specs.Messages.{Messages}
 use Rattle.rules.specs.Report.{Takes, Chosen}
-use Rattle.messages.specs.Counts.{counts, one_entry}
+use Rattle.joining.specs.Counts.{counts}
+use Rattle.messages.specs.Counts.{one_entry}
 use Rattle.messages.specs.Sent.{Sent, choice_cell}
 
 module _ {V E : Type 0} (R : Rules E) (means : V → E) (within : ℕ → V → Type 0) (P : Problem) (kept : ℕ → Bool) (H : Hanging) where

@@ -17,6 +17,12 @@ pub record SmallPlan (plan : List ℕ) : Type 0 where
   pub long : length plan ≡ 64
   pub small : (v : ℕ) → planned plan v < 16
 
+-- x is the lowest value at which a message is highest, given its entries by value.
+pub record LowestHighest {V E : Type 0} (R : Rules E) (means : V → E) (message : List V) (x : ℕ) : Type 0 where
+  pub fits : x < length message
+  pub highest : (z : ℕ) (d : V) → z < length message → R.leq (means (slice_index_or message z d)) (means (slice_index_or message x d)) ≡ true
+  pub lowest : (z : ℕ) (d : V) → z < x → R.leq (means (slice_index_or message x d)) (means (slice_index_or message z d)) ≡ false
+
 -- x is the lowest of the first n values of the variable v whose cell is highest.
 pub record LowestBest {V E : Type 0} (R : Rules E) (means : V → E) (cells : List V) (v n x : ℕ) : Type 0 where
   pub fits : x < n

@@ -1,14 +1,27 @@
 // The value of a root.
-ghost use Rattle.std.specs.Prelude.{◌<◌, ◌≤◌};
+ghost use Rattle.std.specs.Prelude.{◌<◌, ◌≤◌, length};
 ghost use Rattle.theory.specs.Problem.{variables};
-ghost use Rattle.tables.specs.View.{problem_of};
-ghost use Rattle.hanging.specs.Forest.{hanging_of};
-ghost use Rattle.picking.specs.Steps.{SmallPlan, LowestBest, RootGiven};
+ghost use Rattle.messages.specs.Rooted.{problem_in, hanging_in};
+ghost use Rattle.picking.specs.Steps.{LowestHighest, LowestBest, RootGiven};
 
+use crate::draft::Draft;
 use board::Board;
-use hanging::Hung;
+use messages::RootedForest;
 use scale::Scale;
-use tables::Tables;
+
+// The lowest value at which a message is highest.
+fn lowest_highest<V: Scale>(message: &[V]) -> usize
+    requires { 1 ≤ length message.now }
+    ensures { LowestHighest V.Scale.rules V.Scale.means message.now result }
+{
+    let mut best = 0;
+    for (value, entry) in message.iter().enumerate() {
+        if !message[best].at_least(*entry) {
+            best = value;
+        }
+    }
+    best
+}
 
 // The lowest of the first values of a variable whose message is highest.
 fn lowest_best<V: Scale>(values: &Board<V>, variable: usize, size: usize) -> usize
@@ -17,36 +30,23 @@ fn lowest_best<V: Scale>(values: &Board<V>, variable: usize, size: usize) -> usi
     requires small { size ≤ 16 }
     ensures { LowestBest V.Scale.rules V.Scale.means values.now.cells.now variable size result }
 {
-    let mut best = 0;
-    for value in 1..size {
-        let high = values.get(variable, best);
-        if !high.at_least(values.get(variable, value)) {
-            best = value;
-        }
-    }
-    best
+    let message = values.part(variable, 1);
+    lowest_highest(&message[..size])
 }
 
 // Gives a root its value; a variable that hangs from a function gets none here.
 pub(crate) fn pick_root<V: Scale>(
-    tables: &Tables,
-    hung: &Hung,
+    forest: &RootedForest,
     values: &Board<V>,
-    mut plan: [u8; 64],
+    draft: &mut Draft,
     variable: usize,
-) -> [u8; 64]
-    requires known { variable < variables (problem_of tables.now) }
+)
+    requires known { variable < variables (problem_in forest.now) }
     requires rows { 128 ≤ values.now.rows }
-    requires small { SmallPlan plan }
-    ensures root { RootGiven V.Scale.rules V.Scale.means (problem_of tables.now) (hanging_of hung.now) values.now.cells.now variable plan result }
-    ensures small { SmallPlan result }
+    ensures { RootGiven V.Scale.rules V.Scale.means (problem_in forest.now) (hanging_in forest.now) values.now.cells.now variable draft.old.values draft.new.values }
 {
-    match hung.variable(variable).parent {
-        Some(_) => plan,
-        None => {
-            let size = tables.layout.domains()[variable] as usize;
-            plan[variable] = lowest_best(values, variable, size) as u8;
-            plan
-        }
+    if forest.hung.variable(variable).parent.is_none() {
+        let size = forest.tables.layout.domains()[variable] as usize;
+        draft.give(variable, lowest_best(values, variable, size));
     }
 }

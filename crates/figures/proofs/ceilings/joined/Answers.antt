@@ -1,5 +1,5 @@
 use Rattle.std.proofs.Common.{arith}
-use Rattle.messages.proofs.Joining.{join_stands}
+use Rattle.joining.proofs.Joining.{join_stands}
 use Rattle.figures.proofs.ceilings.joined.Goals as goal
 
 pub returns : goal.returns

@@ -1,37 +1,23 @@
 use Rattle.std.proofs.Common.{arith}
-use Rattle.theory.specs.Kept.{kept_at}
-use Rattle.tables.specs.View.{problem_of}
 use Rattle.tables.proofs.Ordered.{within_sizes}
-use Rattle.hanging.specs.Forest.{hanging_of}
+use Rattle.messages.specs.Rooted.{problem_in, kept_in, hanging_in}
 use Rattle.messages.proofs.OfPlaces.{parent_place}
 use Rattle.picking.proofs.OfPlaces.{distinct_places, below_given}
 use Rattle.picking.proofs.below.pick_below.Goals as goal
 
 pub taken-values-requires : goal.taken-values-requires
 taken-values-requires c =
-    let t = c.args.tables.now in
-    let fits = within_sizes t in
+    let r = c.args.forest.now in
     record {
-      parent = parent_place (problem_of t) (kept_at c.args.kept.now.words) (hanging_of c.args.hung.now) c.args.function c.of-places.result c.of-places.ensures c.requires.known c.requires.well;
-      row = omega (arith, c.requires.known, c.requires.rows, fits.few_functions);
-      small = c.requires.small;
+      parent = parent_place (problem_in r) (kept_in r) (hanging_in r) c.args.function c.of-places.result c.of-places.ensures c.requires.known c.requires.rooted.well;
+      row = omega (arith, c.requires.known, c.requires.rows, (within_sizes r.tables.now).few_functions);
     }
 
-pub give_below-requires : goal.give_below-requires
-give_below-requires c =
-    let t = c.args.tables.now in
-    record {
-      fits = c.taken-values.ensures.fits;
-      distinct = distinct_places (problem_of t) (within_sizes t).sound (kept_at c.args.kept.now.words) (hanging_of c.args.hung.now) c.args.function c.requires.known c.of-places.result c.of-places.ensures;
-      small = c.requires.small;
-    }
+pub give_below-requires-clause-distinct : goal.give_below-requires-clause-distinct
+give_below-requires-clause-distinct c = distinct_places c.args.forest.now c.args.function c.requires.known c.of-places.result c.of-places.ensures
 
 pub returns : goal.returns
 returns c =
-    let t = c.args.tables.now in
-    record {
-      below =
-          below_given (problem_of t) (within_sizes t).sound (kept_at c.args.kept.now.words) (hanging_of c.args.hung.now) c.args.function c.requires.known c.of-places.result c.of-places.ensures c.requires.well
-          c.args.choices.now.cells.now c.taken-values.result c.args.plan c.give_below.result c.taken-values.ensures.values c.taken-values.ensures.fits c.give_below.ensures.handed;
-      small = c.give_below.ensures.small;
-    }
+    let taken = c.taken-values in
+    below_given c.args.forest.now c.args.function c.requires.known c.of-places.result c.of-places.ensures c.requires.rooted
+    c.args.choices.now.cells.now taken.result c.args.draft.now.values c.give_below.new.draft.values taken.ensures.values taken.ensures.fits c.give_below.ensures

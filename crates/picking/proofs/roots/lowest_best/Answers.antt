@@ -1,27 +1,15 @@
-use Rattle.std.proofs.Common.{ℕ, ◌+◌, sym, ◌∙◌, subst}
-use Rattle.picking.specs.Steps.{LowestBest}
-use Rattle.picking.proofs.Lowest.{first_alone, best_held, best_raised}
+use Rattle.std.proofs.Common.{arith}
+use Rattle.picking.proofs.Lowest.{row_length, lowest_in_row}
 use Rattle.picking.proofs.roots.lowest_best.Goals as goal
-use Rattle.picking.proofs.roots.lowest_best.Goals.{then-not-at_least, else-not-at_least}
 
-pub loop-value-init : goal.loop-value-init
-loop-value-init g c = first_alone g.V.Scale.rules g.met.V.Scale.laws g.V.Scale.means c.args.values.now.cells.now c.args.variable
+pub lowest_highest-requires : goal.lowest_highest-requires
+lowest_highest-requires g c =
+    let board = c.args.values.now in
+    let long = row_length board.cells.now c.part-message.result.now c.args.variable c.args.size c.part-message.ensures c.requires.small (omega (arith, board.whole, c.requires.row)) in
+    omega (arith, c.requires.some)
 
-pub loop-value-preserved : goal.loop-value-preserved
-loop-value-preserved g c =
-    let v = g.V.Scale in
-    let laws = g.met.V.Scale.laws in
-    let cells = c.args.values.now.cells.now in
-    let n = c.loop-value.value in
-    let best = c.loop-value.best in
-    let Best = λ (b : ℕ). LowestBest v.rules v.means cells c.args.variable (n + 1) b in
-    let high = c.get-high.ensures in
-    let new = c.get.ensures in
-    elim c.if-not-at_least.branch [
-      | then-not-at_least w ↦
-          subst Best (sym w.best-is)
-          (best_raised v.rules laws v.means cells c.args.variable n best c.loop-value.invariant c.get-high.result c.get.result high new (sym w.if-not-at_least.true ∙ c.at_least.ensures))
-      | else-not-at_least w ↦
-          subst Best (sym w.best-is)
-          (best_held v.rules laws v.means cells c.args.variable n best c.loop-value.invariant c.get-high.result c.get.result high new (sym w.if-not-at_least.false ∙ c.at_least.ensures))
-    ]
+pub returns : goal.returns
+returns g c =
+    let board = c.args.values.now in
+    lowest_in_row board.cells.now c.part-message.result.now c.args.variable c.args.size c.part-message.ensures c.requires.small
+    g.V.Scale.rules g.V.Scale.means c.lowest_highest.result (omega (arith, board.whole, c.requires.row)) c.lowest_highest.ensures
