@@ -9,6 +9,11 @@ mod tests {
     use std::test::Fail;
     use tables::Tables;
 
+    // Where a test needs what is declined here, it fails with the refusal's number.
+    fn refused(fault: ProblemFault) -> Fail {
+        Fail::new(fault.number())
+    }
+
     // Three variables of these sizes, and a function of all three.
     fn cube(a: usize, b: usize, c: usize) -> Result<Layout, ProblemFault> {
         let layout = Layout::empty()
@@ -18,17 +23,10 @@ mod tests {
         layout.with_function(&[0, 1, 2])
     }
 
-    fn number_of(res: Result<Layout, ProblemFault>) -> u16 {
-        match res {
-            Ok(_) => 0,
-            Err(fault) => fault.number(),
-        }
-    }
-
     #[test]
     fn table_of_1024_words_is_the_largest(rt: HostRuntime) {
-        assert_eq!(rt; number_of(cube(16, 16, 4)), 0);
-        assert_eq!(rt; number_of(cube(16, 16, 5)), 8);
+        assert_eq!(rt; cube(16, 16, 4).err().map(ProblemFault::number), None);
+        assert_eq!(rt; cube(16, 16, 5).err().map(ProblemFault::number), Some(8));
     }
 
     #[test]
@@ -36,37 +34,23 @@ mod tests {
         let mut plan = [0; 64];
         plan[0] = 1;
         plan[1] = 2;
-        match cube(2, 3, 1) {
-            Ok(layout) => {
-                assert_eq!(rt; layout.index(0, plan), 5);
-                Ok(())
-            },
-            Err(_) => {
-                assert!(rt; false);
-                Ok(())
-            },
-        }
+        let layout = cube(2, 3, 1).map_err(refused)?;
+        assert_eq!(rt; layout.index(0, plan), 5);
+        Ok(())
     }
 
     #[test]
-    fn words_that_read_alike_are_the_same(rt: HostRuntime) {
+    fn words_that_read_alike_are_the_same(rt: HostRuntime) -> Result<(), Fail> {
         let mut ours = Tables::empty();
         let mut theirs = Tables::empty();
-        if let Ok(layout) = cube(1, 1, 1) {
-            ours.layout = layout;
-            theirs.layout = layout;
-        }
+        let layout = cube(1, 1, 1).map_err(refused)?;
+        ours.layout = layout;
+        theirs.layout = layout;
         theirs.words[0] = 1_000_001;
         assert!(rt; tables::same::<Points>(&ours, &theirs));
         theirs.words[0] = 1_000_000;
         assert!(rt; !tables::same::<Points>(&ours, &theirs));
-    }
-
-    fn length_or_number(res: Result<usize, FileFault>) -> usize {
-        match res {
-            Ok(length) => length,
-            Err(fault) => fault.number() as usize,
-        }
+        Ok(())
     }
 
     #[test]
@@ -74,26 +58,25 @@ mod tests {
         let tables = Tables::empty();
         let mut buffer = [7; 17];
         assert_eq!(rt;
-            length_or_number(file::write::<Points>(&tables, &mut buffer[0..15])),
-            24
+            file::write::<Points>(&tables, &mut buffer[0..15]).map_err(FileFault::number),
+            Err(24)
         );
         assert_eq!(rt; buffer[0], 7);
         assert_eq!(rt;
-            length_or_number(file::write::<Points>(&tables, &mut buffer)),
-            16
+            file::write::<Points>(&tables, &mut buffer).map_err(FileFault::number),
+            Ok(16)
         );
         assert_eq!(rt; buffer[0], 1);
         assert_eq!(rt; buffer[16], 7);
     }
 
     #[test]
-    fn declined_file_leaves_the_tables(rt: HostRuntime) {
+    fn declined_file_leaves_the_tables(rt: HostRuntime) -> Result<(), Fail> {
         let mut tables = Tables::empty();
-        if let Ok(layout) = cube(2, 2, 2) {
-            tables.layout = layout;
-        }
+        tables.layout = cube(2, 2, 2).map_err(refused)?;
         assert!(rt; file::read::<Points>(&[1, 0, 9], &mut tables).is_err());
         assert_eq!(rt; tables.layout.words(), 8);
+        Ok(())
     }
 
     // Two variables of two values, and a function of both that gives 5 points where each has value 1.
@@ -106,26 +89,23 @@ mod tests {
         Ok(tables)
     }
 
-    // The points, or 1,000 and the number of the refusal.
-    fn points_or_number(res: Result<Points, ProblemFault>) -> i32 {
-        match res {
-            Ok(points) => points.show().0,
-            Err(fault) => 1000 + i32::from(fault.number()),
-        }
+    // The points, or the number of the refusal.
+    fn told(answer: Result<Points, ProblemFault>) -> Result<i32, u16> {
+        answer
+            .map(|points| points.show().0)
+            .map_err(ProblemFault::number)
     }
 
     #[test]
     fn values_are_scored_and_links_weighed(rt: HostRuntime) -> Result<(), Fail> {
-        let Ok(tables) = pair() else {
-            return Err(Fail::new("pair"));
-        };
-        assert_eq!(rt; points_or_number(editing::score_of(&tables, &[1, 1])), 5);
-        assert_eq!(rt; points_or_number(editing::score_of(&tables, &[1, 0])), 0);
-        assert_eq!(rt; points_or_number(editing::score_of(&tables, &[1])), 1015);
-        assert_eq!(rt; points_or_number(editing::score_of(&tables, &[2, 1])), 1016);
-        assert_eq!(rt; points_or_number(editing::weigh(&tables, 0, 1)), 5);
-        assert_eq!(rt; points_or_number(editing::weigh(&tables, 1, 0)), 1009);
-        assert_eq!(rt; points_or_number(editing::weigh(&tables, 0, 2)), 1017);
+        let tables = pair().map_err(refused)?;
+        assert_eq!(rt; told(editing::score_of(&tables, &[1, 1])), Ok(5));
+        assert_eq!(rt; told(editing::score_of(&tables, &[1, 0])), Ok(0));
+        assert_eq!(rt; told(editing::score_of(&tables, &[1])), Err(15));
+        assert_eq!(rt; told(editing::score_of(&tables, &[2, 1])), Err(16));
+        assert_eq!(rt; told(editing::weigh(&tables, 0, 1)), Ok(5));
+        assert_eq!(rt; told(editing::weigh(&tables, 1, 0)), Err(9));
+        assert_eq!(rt; told(editing::weigh(&tables, 0, 2)), Err(17));
         Ok(())
     }
 }

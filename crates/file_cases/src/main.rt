@@ -2,13 +2,17 @@
 // answered as `inspect` answers it.
 #![tactic(auto)]
 
+ghost use Rattle.std.specs.Prelude.{◌<◌};
+
 use inspection::inspect;
 use std::alloc::{AllocError, Global};
 use std::io;
 use std::io::{BufRead, BufReader};
 
 // The value of a hexadecimal digit; 0 for any other byte.
-fn digit(byte: u8) -> u8 {
+fn digit(byte: u8) -> u8
+    ensures { result < 16 }
+{
     match byte {
         b'0'..=b'9' => byte - b'0',
         b'a'..=b'f' => byte - b'a' + 10,
@@ -18,11 +22,11 @@ fn digit(byte: u8) -> u8 {
 
 // The bytes that pairs of hexadecimal digits stand for.
 fn decoded(heap: Global, text: &[u8]) -> Result<Vec<u8>, AllocError> {
-    let mut bytes = Vec::new(heap);
-    for k in 0..text.len() / 2 {
-        bytes.push((digit(text[2 * k]) & 15) * 16 + (digit(text[2 * k + 1]) & 15))?;
-    }
-    Ok(bytes)
+    let (pairs, _) = text.as_chunks::<2>();
+    pairs
+        .iter()
+        .map(|[high, low]| digit(*high) * 16 + digit(*low))
+        .collect(heap)
 }
 
 fn answer(rt: &HostRuntime, line: &str) -> io::Result<()> {

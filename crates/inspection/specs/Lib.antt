@@ -1,2 +1,3 @@
 pub mod Describing
+pub mod Kinds
 pub mod Limit

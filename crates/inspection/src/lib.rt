@@ -1,6 +1,7 @@
 // What a problem file holds, whichever of the four scales it is in.
 #![tactic(auto)]
 
+mod kind;
 mod limit;
 mod looking;
 mod summary;

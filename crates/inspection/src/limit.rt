@@ -6,7 +6,7 @@ ghost use Rattle.scale.specs.Ranks.{ranked};
 ghost use Rattle.inspection.specs.Limit.{Suffices, TellsCode};
 
 // How many bytes the longest file has.
-const LONGEST: usize = 16784;
+pub(crate) const LONGEST: usize = 16784;
 
 // One byte more than the longest file has.
 fn past(longest: usize) -> usize

@@ -9,8 +9,10 @@ ghost use Rattle.file.specs.Numbers.{refusal};
 ghost use Rattle.file.specs.Tests.{file_tests};
 ghost use Rattle.inspection.specs.Describing.{Describes, NoScale, other_tests};
 
+use crate::kind::Kind;
+use crate::limit::LONGEST;
 use crate::summary::Summary;
-use file::{FileCause, FileFault};
+use file::FileFault;
 use scale::{Capped, Points, Ranked, Scale, Weakest};
 use tables::Tables;
 
@@ -20,7 +22,7 @@ fn look<V: Scale>(bytes: &[u8]) -> Result<Summary, FileFault>
 {
     let mut tables = Tables::empty();
     file::read::<V>(bytes, &mut tables)?;
-    let mut copy = [0; 16784];
+    let mut copy = [0; LONGEST];
     let written = file::write::<V>(&tables, &mut copy)?;
     Ok(Summary {
         scale: V::code(),
@@ -29,7 +31,7 @@ fn look<V: Scale>(bytes: &[u8]) -> Result<Summary, FileFault>
         entries: tables.all_words().len(),
         links: tables.layout.links(),
         bytes: written,
-        same: &copy[0..written] == bytes,
+        same: &copy[..written] == bytes,
     })
 }
 
@@ -41,14 +43,10 @@ pub fn inspect(bytes: &[u8]) -> Result<Summary, FileFault>
     ensures weakest { half bytes.now 0 ≡ 4 → Answered refusal (file_tests weakest bytes.now) (Describes 4 bytes.now) result }
     ensures other { NoScale (half bytes.now 0) → Answered refusal (other_tests bytes.now) (λ _. ⊥) result }
 {
-    match file::scale_code(bytes)? {
-        1 => look::<Points>(bytes),
-        2 => look::<Capped>(bytes),
-        3 => look::<Ranked>(bytes),
-        4 => look::<Weakest>(bytes),
-        _ => Err(FileFault {
-            cause: FileCause::OtherScale,
-            place: 0,
-        }),
+    match Kind::try_from(file::scale_code(bytes)?)? {
+        Kind::Points => look::<Points>(bytes),
+        Kind::Capped => look::<Capped>(bytes),
+        Kind::Ranked => look::<Ranked>(bytes),
+        Kind::Weakest => look::<Weakest>(bytes),
     }
 }

@@ -17,19 +17,15 @@ pub struct Summary {
 impl fmt::Display for Summary {
     fn fmt<W: fmt::Write>(&self, f: &mut fmt::Formatter<W>) -> fmt::Result {
         let same = if self.same { "yes" } else { "no" };
-        let scale = self.scale;
-        let variables = self.variables;
-        let functions = self.functions;
-        let entries = self.entries;
-        let links = self.links;
-        let bytes = self.bytes;
         write!(
             f,
-            "accepted\nscale {scale}\nvariables {variables}\nfunctions {functions}\n"
+            "accepted\nscale {}\nvariables {}\nfunctions {}\n",
+            self.scale, self.variables, self.functions
         )?;
         write!(
             f,
-            "entries {entries}\nlinks {links}\nbytes {bytes}\nsame {same}"
+            "entries {}\nlinks {}\nbytes {}\nsame {same}",
+            self.entries, self.links, self.bytes
         )
     }
 }

@@ -1,17 +1,10 @@
-use Rattle.std.proofs.Common.{◌≡◌, ℕ, ◌-◌, length, take, sum_by, sym, ap, ◌∙◌, arith}
+use Rattle.std.proofs.Common.{ℕ, length, take, sum_by, sym, ap, ◌∙◌}
 use Rattle.std.proofs.lemmas.Slice.Eq.{slice_eq-Decides}
-use Rattle.std.proofs.lemmas.Result.{err_from_is_err_and}
 use Rattle.layout.specs.View.{domains_of, scopes_of}
 use Rattle.tables.specs.View.{problem_of}
 use Rattle.tables.proofs.Ordered.{functions_length, scopes_from}
-use Rattle.file.specs.Spelling.{file_size}
 use Rattle.inspection.proofs.looking.look.Goals as goal
 use Rattle.std.proofs.lemmas.Bool.Decides.{Decides-eqb}
-
-pub returns-in_err-read : goal.returns-in_err-read
-returns-in_err-read g c =
-    let e = err_from_is_err_and c.from_residual.result c.from_residual.ensures.1 in
-    rw (e.1, e.2) c.in_err-read.ensures.answer
 
 pub returns : goal.returns
 returns g c =
@@ -20,8 +13,7 @@ returns g c =
     let written = c.in_ok-written.ensures.answer in
     let l = t.layout in
     let copy = c.write.new.out in
-    let size : c.in_ok-written.written - 0 ≡ file_size (problem_of t) = omega (arith, written.1.0) in
-    let back = ap (λ (n : ℕ). take n copy) size ∙ read.1.again _ written.1.1.spelled in (
+    let back = ap (λ (n : ℕ). take n copy) written.1.0 ∙ read.1.again _ written.1.1.spelled in (
       read.0,
       record {
         problem = problem_of t;
