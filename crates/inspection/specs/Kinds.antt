@@ -9,6 +9,7 @@ use Rattle.inspection.specs.Describing.{NoScale}
 use Rattle.inspection.specs.declared.kind.Kind.{Kind}
 use Rattle.inspection.specs.declared.kind.Kind.TheVariants.{Points, Capped, Ranked, Weakest}
 
+-- the code of each scale, as its rules have it
 abbrev pub code_of : Kind → ℕ
 code_of Points = points.code
 code_of Capped = capped.code
