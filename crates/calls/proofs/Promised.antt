@@ -14,7 +14,7 @@ use Rattle.calls.specs.Step.{Step, Runs, Begins, reported}
 use Rattle.calls.specs.Promise.{plain, AllPlain, PlainPromise, MeasuringPromise, Reached, PlainlyReached, Carries}
 use Rattle.calls.proofs.Within.{variable_fits, function_fits, word_fits}
 
-differ : straight ≡ bounded → ⊥
+pub differ : straight ≡ bounded → ⊥
 differ d = let z : ◌≡◌ {A = ℕ} 0 1 = cc in omega arith
 
 module _ {E : Type 0} (R : Rules E) where

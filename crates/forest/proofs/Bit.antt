@@ -1,8 +1,11 @@
 -- One bit of a word. Assumes nothing.
-use Rattle.std.proofs.Common.{◌≡◌, ℕ, zero, suc, ◌+◌, ◌-◌, ◌*◌, ◌/◌, ◌%◌, ◌^◌, ◌<◌, Bool, true, false, cond, ◌||◌, eqb, ◌≢◌, List, length, get_or, set, sym, refl, ap, ◌∙◌, ⊎_elim, pow-suc, arith, get_or-set_other, get_or-set_same}
+use Rattle.std.proofs.Common.{◌≡◌, ℕ, zero, suc, ◌+◌, ◌-◌, ◌*◌, ◌/◌, ◌%◌, ◌^◌, ◌<◌, Bool, true, false, cond, ◌||◌, eqb, ◌≢◌, List, length, get_or, set, sym, refl, ap, ◌∙◌, inl, inr, ⊎_elim, pow-suc, arith, get_or-set_other, get_or-set_same}
 use native.Mathlib.Nat.{div-eq_of_lt, div_self}
 use lib.Bits.{bit_or}
 use Rattle.std.proofs.lemmas.Nat.{or_shr, or_mod, pow_pos, pow-add, pow_below, shl-shr, one_shl}
+use Rattle.std.proofs.lemmas.Bool.{cases_eq, cases_lt}
+use Rattle.std.proofs.lemmas.Grind.{get_or-set_at}
+use Rattle.std.proofs.lemmas.List.{get_or_past, length-set}
 use Rattle.std.proofs.lemmas.Bool.Decides.{eqb_tells, leb_tells}
 use Rattle.theory.specs.Kept.{bit, kept_at}
 
@@ -78,3 +81,13 @@ module _ (ws : List ℕ) (link n : ℕ) (lt : link / 64 < length ws) where
       ∙ joined (bit w i) (eqb i k) (omega arith) ∙ ap (λ b. b || eqb (bit w i) 1) (same_place e) ∙ ap (λ j. eqb n link || eqb (bit (get_or ws j 0) i) 1) (sym e))
       (λ p. apart _ p.1 ∙ sym (ap (λ b. b || kept_at ws n) (other p.1)))
       (eqb_tells (n / 64) (link / 64))
+
+-- Where words and a new word fit in 64 bits, they still do when it is written.
+pub word_fits : (ws : List ℕ) (i w k : ℕ) → ((j : ℕ) → get_or ws j 0 < 2 ^ 64) → w < 2 ^ 64 → get_or (set ws i w) k 0 < 2 ^ 64
+word_fits ws i w k fit h = elim (cases_eq k i) [
+  | inl same ↦ elim (cases_lt k (length ws)) [
+    | inl low ↦ let here = get_or-set_at ws i k w 0 same (omega arith) in omega (arith, here)
+    | inr past ↦ let long = length-set ws i w in omega (arith, get_or_past (set ws i w) k 0 (omega arith), h)
+  ]
+  | inr other ↦ omega (arith, get_or-set_other ws i k w 0 other, fit k)
+]

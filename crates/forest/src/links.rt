@@ -11,6 +11,8 @@ pub const LINKS: usize = MOST_PLACES * MOST_FUNCTIONS;
 #[derive(Clone, Copy)]
 pub struct Links {
     words: [u64; 4],
+    ghost room: { length words ≡ 4 },
+    ghost fit: { (k : ℕ) → slice_index words k < 18446744073709551616 },
 }
 
 // Whether a bit of a word is set.

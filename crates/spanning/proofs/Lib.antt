@@ -1,4 +1,5 @@
 pub mod OfTables
+pub mod WeightCells
 pub mod AllLinks
 pub mod Written
 pub mod Removed

@@ -12,6 +12,7 @@ use Rattle.tables.proofs.Ordered.{within_sizes}
 use Rattle.keeping.specs.Weights.{weight_of}
 use Rattle.spanning.specs.WeightCells.{weight_cells, OthersSame}
 use Rattle.spanning.proofs.OfTables.{link_there}
+use Rattle.spanning.proofs.WeightCells.{weight_count, weight_cell}
 
 -- The value v is fine, and means the weight of the link n; neutral where there is no such link.
 pub record LinkWeight {V E : Type 0} (R : Rules E) (means : V → E) (Fine : V → Type 0) (P : Problem) (n : ℕ) (v : V) : Type 0 where
@@ -51,20 +52,17 @@ module _ {V E : Type 0} (R : Rules E) (means : V → E) (after : List V) (room :
   abbrev weight : ℕ → E
   weight = weight_of R means (weight_cells after)
 
-  some_cells : length (weight_cells after) ≡ 256
-  some_cells = let rest = length-drop 2048 after in length-take-le 256 (drop 2048 after) (omega arith)
-
   -- the weight that a cell means
   weight_at : (n : ℕ) (v : V) → n < 256 → get_or after (2048 + n) v ≡ v → weight n ≡ means v
   weight_at n v h is =
-      let long = some_cells in
+      let long = weight_count after room in
       get_or-map means (weight_cells after) n v R.neutral (omega arith)
-      ∙ ap means (get_or-take 256 (drop 2048 after) n v h ∙ get_or-drop 2048 after n v ∙ is)
+      ∙ ap means (weight_cell after n v h ∙ is)
 
   weight_past : (n : ℕ) → 256 ≤ n → weight n ≡ R.neutral
   weight_past n h =
       let long = length-map (weight_cells after) means in
-      let cells = some_cells in
+      let cells = weight_count after room in
       get_or_past (map means (weight_cells after)) n R.neutral (omega arith)
 
   module _ (Fine : V → Type 0) (t : Tables) (before : List V) (w : Weighed R means Fine (problem_of t) before after 256) where
