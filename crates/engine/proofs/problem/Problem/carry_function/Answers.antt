@@ -1,0 +1,11 @@
+use Rattle.std.proofs.Common.{ap}
+use Rattle.calls.specs.State.{Call, Answer}
+use Rattle.calls.specs.Step.{Step}
+use Rattle.engine.proofs.Steps.{step_carries, retold}
+use Rattle.engine.proofs.problem.Problem.carry_function.Goals as goal
+
+pub returns-clause-carries : goal.returns-clause-carries
+returns-clause-carries g c =
+    let s = g.V.Scale in
+    step_carries s.rules g.met.V.Scale.laws s.means c.args.self.now c.attach.new.self (Call.add_function c.args.scope.now) Answer.number _ c.attach.result c.attach.ensures.answer c.attach.ensures.declined
+    (λ n none has. retold (ap Answer.number has.0) has.1 (Step.function_added none))
