@@ -7,12 +7,13 @@ use Rattle.calls.specs.Step.{Begins}
 use Rattle.file.specs.declared.fault.FileFault.{FileFault}
 use Rattle.file.specs.Numbers.{refusal}
 use Rattle.file.specs.Reading.{ReadAs}
+use Rattle.file.specs.Tests.{file_tests}
 use Rattle.engine.specs.declared.problem.Problem.{Problem}
 use Rattle.engine.specs.View.{state_of}
 use Rattle.engine.proofs.Words.{each_entry}
 
-pub begun : {V E T : Type 0} (R : Rules E) (means : V → E) (p : Problem V) (bytes : List ℕ) (tests : List ((ℕ × ℕ) × Type 0)) (r : Result T FileFault) →
-    Answered refusal tests (λ _. ReadAs R bytes (state_of means p).problem × ((state_of means p).report ≡ None)) r →
-    Answered refusal tests (λ _. ReadAs R bytes (state_of means p).problem × Begins R (state_of means p)) r
-begun R means p bytes tests (Ok x) (none, (read, bare)) = (none, (read, record { fits = within_sizes p.tables; entries = each_entry R (state_of means p).problem read.entries; unreported = bare }))
-begun R means p bytes tests (Err f) first = first
+pub begun : {V E T : Type 0} (R : Rules E) (means : V → E) (p : Problem V) (bytes : List ℕ) (r : Result T FileFault) →
+    Answered refusal (file_tests R bytes) (λ _. ReadAs R bytes (state_of means p).problem × ((state_of means p).report ≡ None)) r →
+    Answered refusal (file_tests R bytes) (λ _. ReadAs R bytes (state_of means p).problem × Begins R (state_of means p)) r
+begun R means p bytes (Ok x) (none, (read, bare)) = (none, (read, record { fits = within_sizes p.tables; entries = each_entry R (state_of means p).problem read.entries; unreported = bare }))
+begun R means p bytes (Err f) first = first

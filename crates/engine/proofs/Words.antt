@@ -1,6 +1,7 @@
 -- The words of a table are among those of all tables. Assumes nothing.
 use Rattle.std.proofs.Common.{◌≡◌, ℕ, zero, suc, ◌+◌, ◌-◌, ◌<◌, true, List, [], ◌∷◌, ◌++◌, length, get_or, sym, ap, ◌∙◌, subst, arith}
-use Rattle.std.proofs.lemmas.List.{get_or_append_left, get_or-append_right, length-append}
+use Rattle.std.proofs.lemmas.List.{get_or_append_left, length-append}
+use Rattle.std.proofs.Math.Seq.{get_or-append_right}
 use Rattle.std.specs.List.{flat_map}
 use Rattle.scale.specs.Rules.{Rules}
 use Rattle.theory.specs.Problem.{Problem, Function, function, functions, words_in_order}
@@ -18,8 +19,7 @@ word_there (t ∷ tables) zero i h low =
 word_there (t ∷ tables) (suc f) i h low =
     let (k, below, is) = word_there tables f i (omega arith) low in
     let long = length-append t.words (all tables) in
-    let same : length t.words + k - length t.words ≡ k = omega arith in
-    (
+    let same : length t.words + k - length t.words ≡ k = omega arith in (
       length t.words + k,
       omega arith,
       get_or-append_right t.words (all tables) (length t.words + k) 0 (omega arith) ∙ ap (λ (j : ℕ). get_or (all tables) j 0) same ∙ is,
