@@ -1,10 +1,10 @@
 -- The words of a table are among those of all tables. Assumes nothing.
-use Rattle.std.proofs.Common.{◌≡◌, ℕ, zero, suc, ◌+◌, ◌-◌, ◌<◌, true, List, [], ◌∷◌, ◌++◌, length, get_or, sym, ap, ◌∙◌, subst, arith}
+use Rattle.std.proofs.Common.{◌≡◌, ℕ, zero, suc, ◌+◌, ◌-◌, ◌<◌, true, List, [], ◌∷◌, length, get_or, ap, ◌∙◌, subst, arith}
 use Rattle.std.proofs.lemmas.List.{get_or_append_left, length-append}
 use Rattle.std.proofs.Math.Seq.{get_or-append_right}
 use Rattle.std.specs.List.{flat_map}
 use Rattle.scale.specs.Rules.{Rules}
-use Rattle.theory.specs.Problem.{Problem, Function, function, functions, words_in_order}
+use Rattle.theory.specs.Problem.{Problem, Function, function, functions}
 use Rattle.file.specs.Spelling.{AllEntries}
 
 abbrev all : List Function → List ℕ

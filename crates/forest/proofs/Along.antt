@@ -1,5 +1,5 @@
 -- Keeping along an order, link by link; and along an order that a test gives. Assumes nothing.
-use Rattle.std.proofs.Common.{◌≡◌, ℕ, ◌+◌, ◌<◌, Bool, true, false, eqb, ◌⊎◌, List, length, get_or, Decides, sym, refl, ap, ◌∙◌, subst, inl, inr, ⊎_elim, arith, below_more}
+use Rattle.std.proofs.Common.{◌≡◌, ℕ, ◌+◌, ◌<◌, Bool, true, false, eqb, ◌⊎◌, List, get_or, Decides, sym, refl, ap, ◌∙◌, subst, inl, inr, ⊎_elim, arith, below_more}
 use mathlib.Core.Path.{fun_ext}
 use Rattle.std.proofs.lemmas.Bool.{both_ways, cases_Bool, cases_eq, eq-eqb, ne_eqb, eqb-true, or_cases, or_left, or_right, and_parts, and_from, cond-true, cond-false}
 use Rattle.std.proofs.lemmas.Bool.Decides.{Decides-below_or, Decides-eqb}
@@ -7,7 +7,7 @@ use Rattle.theory.specs.Graphs.{Graph, Uses, Joined}
 use Rattle.theory.proofs.Sets.{Within}
 use Rattle.theory.proofs.Walks.{joined_within, joined_sym, joined_trans, at_once, link_joins}
 use Rattle.theory.proofs.Labels.{Labels, labels_alone, labels_join, same_label, labels_moved}
-use Rattle.forest.specs.Along.{earlier, KeptAt, KeptAlong}
+use Rattle.forest.specs.Along.{earlier, KeptAt}
 use Rattle.forest.specs.Labelled.{relabel, Merges, Considered}
 
 -- The test says that the number stands at some position below i.

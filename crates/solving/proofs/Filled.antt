@@ -1,5 +1,5 @@
 -- The boards and the report when all messages are sent. Assumes nothing.
-use Rattle.std.proofs.Common.{◌≡◌, ℕ, zero, ◌+◌, ◌*◌, ◌<◌, ◌≤◌, Bool, true, false, cond, ◌&&◌, ltb, List, map, length, get_or, replicate, sym, refl, ap, ◌∙◌, subst, inl, inr, arith}
+use Rattle.std.proofs.Common.{◌≡◌, ℕ, zero, ◌<◌, ◌≤◌, Bool, true, false, cond, ◌&&◌, ltb, List, map, length, get_or, sym, refl, ap, ◌∙◌, subst, inl, inr, arith}
 use Rattle.std.proofs.lemmas.Bool.{cases_lt, lt-ltb, le-ltb}
 use Rattle.std.proofs.lemmas.List.{get_or-replicate, length-map, length-replicate}
 use Rattle.scale.specs.Rules.{Rules}
@@ -18,7 +18,7 @@ use Rattle.theory.proofs.CutTables.{cut_settled}
 use Rattle.theory.proofs.MessagesExist.{some_messages}
 use Rattle.theory.proofs.TablesExist.{some_cut}
 use Rattle.rules.specs.Figures.{planned, share_of}
-use Rattle.rules.specs.Report.{Takes, Working, Reports, Stored, Solved}
+use Rattle.rules.specs.Report.{Working, Reports, Stored, Solved}
 use Rattle.forest.specs.declared.links.Links.{Links}
 use Rattle.keeping.specs.Weights.{weight_of}
 use Rattle.hanging.specs.declared.hung.Hung.{Hung}

@@ -1,6 +1,6 @@
 -- The weights of links, written cell by cell. Assumes nothing.
-use Rattle.std.proofs.Common.{◌≡◌, ℕ, ◌+◌, ◌/◌, ◌%◌, ◌<◌, ◌≤◌, true, false, ◌≢◌, List, map, length, get_or, drop, set, sym, ap, ◌∙◌, subst, subst₂, ⊎_elim, arith, below_more}
-use Rattle.std.proofs.lemmas.List.{get_or-drop, get_or-map, get_or_past, get_or-set_same, get_or-set_other, get_or-take, length-drop, length-map, length-set, length-take-le, take-set-le, drop-set-lt}
+use Rattle.std.proofs.Common.{◌≡◌, ℕ, ◌+◌, ◌/◌, ◌%◌, ◌<◌, ◌≤◌, true, false, ◌≢◌, List, map, length, get_or, set, sym, ap, ◌∙◌, subst, subst₂, ⊎_elim, arith, below_more}
+use Rattle.std.proofs.lemmas.List.{get_or-map, get_or_past, get_or-set_same, get_or-set_other, length-map, length-set, take-set-le, drop-set-lt}
 use Rattle.std.proofs.lemmas.Bool.{cases_lt}
 use Rattle.scale.specs.Rules.{Rules}
 use Rattle.theory.specs.Problem.{Problem}

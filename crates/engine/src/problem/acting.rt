@@ -1,5 +1,5 @@
 // What calls do to the problem and to its report.
-ghost use Rattle.std.specs.Prelude.{◌≡◌, length, Some};
+ghost use Rattle.std.specs.Prelude.{◌≡◌, length, Some, None};
 ghost use Rattle.theory.specs.Joins.{Highest};
 ghost use Rattle.theory.specs.KeptBy.{straight, bounded};
 ghost use Rattle.theory.specs.Problem.{Valid, variables, functions, score};
@@ -22,13 +22,21 @@ use scale::{Measuring, Scale};
 use solving::{Report, bounded_solve, straight_solve};
 
 impl<V: Scale> Problem<V> {
+    // Lets no report stand.
+    pub(crate) fn withdraw(&mut self)
+        ensures tables { self.new.tables ≡ self.old.tables }
+        ensures report { self.new.standing ≡ None }
+    {
+        self.standing = None;
+    }
+
     // One more variable; no report stands then.
     pub(crate) fn grow(&mut self, size: usize) -> Result<usize, ProblemFault>
         ensures answer { Answered problem_number (tests V.Scale.rules (state_of V.Scale.means self.old) (Call.add_variable size)) (λ n. (n ≡ variables (problem_of self.old.tables)) × (state_of V.Scale.means self.new ≡ unreported (with_variable (problem_of self.old.tables) size))) result }
         ensures declined { Untouched result self.old self.new }
     {
         let number = add_variable(&mut self.tables, size)?;
-        self.standing = None;
+        self.withdraw();
         Ok(number)
     }
 
@@ -38,7 +46,7 @@ impl<V: Scale> Problem<V> {
         ensures declined { Untouched result self.old self.new }
     {
         let number = add_function::<V>(&mut self.tables, scope)?;
-        self.standing = None;
+        self.withdraw();
         Ok(number)
     }
 
@@ -53,7 +61,7 @@ impl<V: Scale> Problem<V> {
         ensures declined { Untouched result self.old self.new }
     {
         set_entry::<V>(&mut self.tables, function, index, word)?;
-        self.standing = None;
+        self.withdraw();
         Ok(())
     }
 

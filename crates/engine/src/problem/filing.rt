@@ -19,7 +19,7 @@ impl<V: Scale> Problem<V> {
         ensures declined { Untouched result self.old self.new }
     {
         read::<V>(bytes, &mut self.tables)?;
-        self.standing = None;
+        self.withdraw();
         Ok(())
     }
 

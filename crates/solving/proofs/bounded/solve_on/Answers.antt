@@ -1,4 +1,3 @@
-use Rattle.std.proofs.Common.{rules}
 use Rattle.theory.specs.KeptBy.{bounded}
 use Rattle.solving.proofs.Blanks.{weighed_blank}
 use Rattle.solving.proofs.bounded.solve_on.Goals as goal

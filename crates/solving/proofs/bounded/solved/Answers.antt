@@ -1,4 +1,4 @@
-use Rattle.std.proofs.Common.{◌≡◌, List, ℕ, subst₂, rules}
+use Rattle.std.proofs.Common.{List, ℕ, subst₂, rules}
 use Rattle.theory.specs.KeptBy.{bounded}
 use Rattle.tables.specs.View.{problem_of}
 use Rattle.tables.proofs.Ordered.{within_sizes}

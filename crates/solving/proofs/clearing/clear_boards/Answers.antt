@@ -1,4 +1,4 @@
-use Rattle.std.proofs.Common.{◌≡◌, ℕ, List, replicate, ap, ◌∙◌, rules}
+use Rattle.std.proofs.Common.{◌≡◌, ℕ, replicate, ap, ◌∙◌}
 use Rattle.solving.proofs.Blanks.{all_blank, all_unweighed}
 use Rattle.solving.proofs.clearing.clear_boards.Goals as goal
 

@@ -1,4 +1,4 @@
-use Rattle.std.proofs.Common.{ℕ, ◌+◌, sym, subst, arith}
+use Rattle.std.proofs.Common.{◌+◌, sym, subst, arith}
 use Rattle.theory.specs.Kept.{kept_at}
 use Rattle.tables.specs.View.{problem_of}
 use Rattle.tables.proofs.Ordered.{within_sizes}

@@ -1,4 +1,3 @@
-use Rattle.std.proofs.Common.{refl}
 use Rattle.calls.specs.State.{Call, Answer}
 use Rattle.calls.specs.Step.{Step}
 use Rattle.engine.proofs.Steps.{step_carries, steady}
