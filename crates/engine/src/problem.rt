@@ -5,6 +5,7 @@ use tables::Tables;
 mod acting;
 mod calling;
 mod carrying;
+mod counting;
 mod filing;
 mod opening;
 

@@ -69,7 +69,7 @@ impl fmt::Display for FileFault {
 }
 
 // A result of the problem, with the byte place that a refusal belongs to.
-pub(crate) fn located<T>(res: Result<T, ProblemFault>, place: usize) -> Result<T, FileFault>
+pub fn located<T>(res: Result<T, ProblemFault>, place: usize) -> Result<T, FileFault>
     ensures { result ≡ located res place }
 {
     res.map_err(|fault| FileCause::Problem(fault).at(place))

@@ -10,7 +10,7 @@ mod scopes;
 mod sections;
 mod writing;
 
-pub use fault::{FileCause, FileFault};
+pub use fault::{FileCause, FileFault, located};
 pub use header::scale_code;
 pub use reading::read;
 pub use writing::write;

@@ -4,7 +4,7 @@ ghost use Rattle.inspection.specs.Kinds.{Decodes};
 use file::{FileCause, FileFault};
 
 #[derive(Clone, Copy)]
-pub(crate) enum Kind {
+pub enum Kind {
     Points,
     Capped,
     Ranked,

@@ -6,6 +6,7 @@ mod limit;
 mod looking;
 mod summary;
 
+pub use kind::Kind;
 pub use limit::most_read;
 pub use looking::inspect;
 pub use summary::Summary;

@@ -1,0 +1,4 @@
+pub mod Graphs
+pub mod Solving
+pub mod Showing
+pub mod Files

@@ -1,0 +1,20 @@
+use Rattle.std.proofs.Common.{length}
+use Rattle.theory.specs.KeptBy.{straight}
+use Rattle.file.proofs.Testing.{answered_located}
+use Rattle.solving.specs.Report.{figures_of, stores_of}
+use Rattle.engine.specs.View.{state_of}
+use Rattle.sheets.specs.Sheets.{solve_tests}
+use Rattle.sheets.proofs.Solving.{solve_answered}
+use Rattle.sheets.proofs.solving_straight.solve.Goals as goal
+
+pub returns-clause-answer : goal.returns-clause-answer
+returns-clause-answer g c =
+    let s = g.V.Scale in
+    let call = c.straight_solve in
+    let before = state_of s.means c.args.problem.now in
+    let figures = figures_of s.means call.new.report in
+    let stores = stores_of s.means call.new.values call.new.choices in
+    rw c.located.ensures
+    (answered_located 0 (solve_tests straight before.problem) _ call.result
+    (solve_answered s.rules before (state_of s.means call.new.self) straight (length c.args.values.now) (length c.args.choices.now) figures stores call.result
+    c.requires.values c.requires.choices call.ensures.carries call.ensures.guaranteed))

@@ -1,0 +1,12 @@
+// The sheet of a problem file: its problem solved, whichever of the four scales it is in.
+#![tactic(auto)]
+
+mod answering;
+mod opening;
+mod printing;
+mod solving_bounded;
+mod solving_straight;
+mod telling;
+
+pub use answering::sheet;
+pub use printing::Sheet;
