@@ -16,6 +16,7 @@ use crate::solving_straight::straight_sheet;
 use file::FileFault;
 use inspection::Kind;
 use scale::{Capped, Points, Ranked, Scale, Weakest};
+use solving::{CHOICE_CELLS, VALUE_CELLS};
 
 // What a file's problem is solved to, in the scale that its code names. Only a scale that measures gaps can remove links.
 pub fn sheet(bytes: &[u8]) -> Result<Sheet, FileFault>
@@ -25,11 +26,15 @@ pub fn sheet(bytes: &[u8]) -> Result<Sheet, FileFault>
     ensures weakest { half bytes.now 0 ≡ 4 → Answered refusal (sheet_tests weakest straight bytes.now) (Shows weakest straight bytes.now) result }
     ensures other { NoScale (half bytes.now 0) → Answered refusal (other_tests bytes.now) (λ _. ⊥) result }
 {
-    let mut choices = [0; 1024];
+    let mut choices = [0; CHOICE_CELLS];
     match Kind::try_from(file::scale_code(bytes)?)? {
-        Kind::Points => bounded_sheet(bytes, &mut [Points::neutral(); 2304], &mut choices),
-        Kind::Capped => bounded_sheet(bytes, &mut [Capped::neutral(); 2304], &mut choices),
-        Kind::Ranked => bounded_sheet(bytes, &mut [Ranked::neutral(); 2304], &mut choices),
-        Kind::Weakest => straight_sheet(bytes, &mut [Weakest::neutral(); 2304], &mut choices),
+        Kind::Points => bounded_sheet(bytes, &mut [Points::neutral(); VALUE_CELLS], &mut choices),
+        Kind::Capped => bounded_sheet(bytes, &mut [Capped::neutral(); VALUE_CELLS], &mut choices),
+        Kind::Ranked => bounded_sheet(bytes, &mut [Ranked::neutral(); VALUE_CELLS], &mut choices),
+        Kind::Weakest => straight_sheet(
+            bytes,
+            &mut [Weakest::neutral(); VALUE_CELLS],
+            &mut choices,
+        ),
     }
 }

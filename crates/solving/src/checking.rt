@@ -16,10 +16,10 @@ use scale::Scale;
 use tables::Tables;
 
 // How many cells the value store has: a row for each node, and a cell for each link.
-const VALUES: usize = ROW * NODES + LINKS;
+pub const VALUE_CELLS: usize = ROW * NODES + LINKS;
 
 // How many cells the choice store has: a row for each function.
-const CHOICES: usize = ROW * MOST_FUNCTIONS;
+pub const CHOICE_CELLS: usize = ROW * MOST_FUNCTIONS;
 
 // Declines stores of other lengths, and a problem without variables.
 pub(crate) fn check_solve<V: Scale>(
@@ -29,7 +29,7 @@ pub(crate) fn check_solve<V: Scale>(
 ) -> Result<(), ProblemFault>
     ensures { Answered problem_number (tests V.Scale.rules (unreported (problem_of tables.now)) (Call.solve bounded values choices)) (λ _. (values ≡ 2304) × (choices ≡ 1024) × (1 ≤ variables (problem_of tables.now))) result }
 {
-    if values != VALUES || choices != CHOICES {
+    if values != VALUE_CELLS || choices != CHOICE_CELLS {
         return Err(ProblemFault::StoreLength);
     }
     if tables.layout.domains().is_empty() {

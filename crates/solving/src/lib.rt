@@ -10,5 +10,6 @@ mod straight;
 mod telling;
 
 pub use bounded::bounded_solve;
+pub use checking::{CHOICE_CELLS, VALUE_CELLS};
 pub use report::Report;
 pub use straight::straight_solve;
