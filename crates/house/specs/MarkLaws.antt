@@ -1,12 +1,12 @@
 -- The laws of marks: of penalties, and of the two ranked one after the other. Assumes nothing.
-use Rattle.std.specs.Prelude.{◌≡◌, true, false, ℤ, pos, ◌+ℤ◌, ◌-ℤ◌}
-use Rattle.std.proofs.Common.{inl, inr, ⊎_elim, arith, le-leb}
+use Rattle.std.specs.Prelude.{◌≡◌, true, false, ℤ, pos, ◌+ℤ◌}
+use Rattle.std.proofs.Common.{inl, inr, ⊎_elim, arith}
 use Rattle.std.proofs.lemmas.Bool.{cases_Bool}
 use Rattle.std.proofs.lemmas.Int.{ints}
 use Rattle.scale.specs.Laws.{PlainLaws, GapLaws, Strictness}
-use Rattle.scale.specs.Levels.{Level, level, level_leq, level_add, level_sub}
+use Rattle.scale.specs.Levels.{Level, level}
 use Rattle.scale.specs.LevelLaws.{at_most, capped_laws}
-use Rattle.scale.specs.LexLaws.{lex_laws, below_or_same}
+use Rattle.scale.specs.LexLaws.{lex_laws}
 use Rattle.house.specs.Marks.{mark, penalty_leq, mark_leq, mark_add, mark_gap}
 
 penalty_laws : PlainLaws penalty_leq ◌+ℤ◌ (pos 0)
@@ -26,24 +26,14 @@ penalty_strict a b c h = grind (arith, ints)
 pub mark_laws : PlainLaws mark_leq mark_add (mark (pos 0) (level 0))
 mark_laws = lex_laws penalty_laws penalty_strict capped_laws
 
--- no higher in either part
-under : (a b : ℤ × Level) → penalty_leq a.0 b.0 ≡ true → level_leq a.1 b.1 ≡ true → mark_leq a b ≡ true
-under = below_or_same penalty_laws penalty_strict capped_laws
-
-penalties_back : (a b : ℤ) → penalty_leq a (b +ℤ (a -ℤ b)) ≡ true
-penalties_back a b = grind (arith, ints)
-
-halves_back : (a b : Level) → level_leq a (level_add b (level_sub a b)) ≡ true
-halves_back a b = le-leb _ _ (omega (arith, at_most a, at_most b))
-
 mark_covers : (a b : ℤ × Level) → mark_leq b a ≡ true → mark_leq a (mark_add b (mark_gap a b)) ≡ true
-mark_covers a b h = rw h (under a (mark_add b (mark (a.0 -ℤ b.0) (level_sub a.1 b.1))) (penalties_back a.0 b.0) (halves_back a.1 b.1))
+mark_covers a b h = grind (arith, ints, at_most a.1)
 
 mark_rises : (a b : ℤ × Level) → mark_leq (mark (pos 0) (level 0)) (mark_gap a b) ≡ true
 mark_rises a b = grind (arith, ints)
 
 mark_none : (a b : ℤ × Level) → mark_leq b a ≡ false → mark_gap a b ≡ mark (pos 0) (level 0)
-mark_none a b h = rw h
+mark_none a b h = grind arith
 
 pub mark_gaps : GapLaws mark_leq mark_add (mark (pos 0) (level 0)) mark_gap
 mark_gaps = record { covers = mark_covers; rises = mark_rises; none = mark_none }
