@@ -12,7 +12,7 @@ use forest::LINKS;
 use house::{Marks, word_of};
 use layout::ProblemFault;
 use scale::Scale;
-use solving::Report;
+use solving::{CHOICE_CELLS, Report, VALUE_CELLS};
 use std::fmt;
 
 #[derive(Clone, Copy)]
@@ -26,8 +26,8 @@ pub(crate) struct Sheet {
 fn solve(problem: &mut Problem<Marks>) -> Result<Report<Marks>, ProblemFault>
     ensures { IfOk result (λ r. GuaranteedLightest marks (state_of ⟦<Marks as Scale>⟧.means problem.new).problem bounded (figures_of ⟦<Marks as Scale>⟧.means r)) }
 {
-    let mut values = [Marks::neutral(); 2304];
-    let mut choices = [0; 1024];
+    let mut values = [Marks::neutral(); VALUE_CELLS];
+    let mut choices = [0; CHOICE_CELLS];
     let mut report = Report::blank();
     problem.bounded_solve(&mut values, &mut choices, &mut report)?;
     Ok(report)
