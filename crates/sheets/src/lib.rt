@@ -3,6 +3,7 @@
 
 mod answering;
 mod opening;
+mod placing;
 mod printing;
 mod solving_bounded;
 mod solving_straight;

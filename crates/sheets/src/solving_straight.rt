@@ -1,5 +1,5 @@
 // A file whose problem is solved with no link removed.
-ghost use Rattle.std.specs.Prelude.{◌≡◌, length, IfErr};
+ghost use Rattle.std.specs.Prelude.{◌≡◌, length};
 ghost use Rattle.theory.specs.KeptBy.{straight};
 ghost use Rattle.theory.specs.Refusals.{Answered};
 ghost use Rattle.file.specs.Numbers.{refusal};
@@ -10,14 +10,15 @@ ghost use Rattle.sheets.specs.Sheets.{solve_tests, SheetOf, SolvedAs};
 ghost use Rattle.sheets.specs.Shows.{sheet_tests, Shows};
 
 use crate::opening::opened;
+use crate::placing::placed;
 use crate::printing::Sheet;
 use crate::telling::told;
 use engine::Problem;
-use file::{FileFault, located};
+use file::FileFault;
 use scale::Scale;
 use solving::Report;
 
-// The report of a problem. A refusal has place 0.
+// The report of a problem.
 fn solve<V: Scale>(
     problem: &mut Problem<V>,
     values: &mut [V],
@@ -26,10 +27,9 @@ fn solve<V: Scale>(
 ) -> Result<(), FileFault>
     requires values { length values.old ≡ 2304 }
     requires choices { length choices.old ≡ 1024 }
-    ensures answer { Answered refusal (at_place 0 (solve_tests straight (state_of V.Scale.means problem.old).problem)) (λ _. SolvedAs V.Scale.rules straight (state_of V.Scale.means problem.old).problem (state_of V.Scale.means problem.new).problem (figures_of V.Scale.means report.new) (stores_of V.Scale.means values.new choices.new)) result }
-    ensures place { IfErr result (λ fault. fault.place ≡ 0) }
+    ensures { Answered refusal (at_place 0 (solve_tests straight (state_of V.Scale.means problem.old).problem)) (λ _. SolvedAs V.Scale.rules straight (state_of V.Scale.means problem.old).problem (state_of V.Scale.means problem.new).problem (figures_of V.Scale.means report.new) (stores_of V.Scale.means values.new choices.new)) result }
 {
-    located(problem.straight_solve(values, choices, report), 0)
+    placed(problem.straight_solve(values, choices, report))
 }
 
 // The sheet of a problem.

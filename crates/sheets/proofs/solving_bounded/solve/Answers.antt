@@ -7,14 +7,14 @@ use Rattle.sheets.specs.Sheets.{solve_tests}
 use Rattle.sheets.proofs.Solving.{solve_answered}
 use Rattle.sheets.proofs.solving_bounded.solve.Goals as goal
 
-pub returns-clause-answer : goal.returns-clause-answer
-returns-clause-answer g c =
+pub returns : goal.returns
+returns g c =
     let s = g.V.Scale in
     let call = c.bounded_solve in
     let before = state_of s.means c.args.problem.now in
     let figures = figures_of s.means call.new.report in
     let stores = stores_of s.means call.new.values call.new.choices in
-    rw c.located.ensures
+    rw c.placed.ensures
     (answered_located 0 (solve_tests bounded before.problem) _ call.result
     (solve_answered s.rules before (state_of s.means call.new.self) bounded (length c.args.values.now) (length c.args.choices.now) figures stores call.result
     c.requires.values c.requires.choices call.ensures.carries call.ensures.guaranteed))
