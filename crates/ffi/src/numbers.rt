@@ -1,0 +1,61 @@
+// The figures of a report as plain numbers.
+ghost use Rattle.std.specs.Prelude.{◌≡◌};
+
+use forest::Links;
+use scale::Scale;
+use solving::Report;
+use std::array;
+
+// A value is two numbers, as its scale shows it.
+#[repr(C)]
+#[derive(Clone, Copy)]
+pub struct Figures {
+    pub plan: [u8; 64],
+    pub kept: [u64; 4],
+    pub share: u64,
+    pub kept_count: u32,
+    pub tree_first: i32,
+    pub tree_second: i32,
+    pub score_first: i32,
+    pub score_second: i32,
+    pub removed_first: i32,
+    pub removed_second: i32,
+    pub ceiling_first: i32,
+    pub ceiling_second: i32,
+}
+
+// The word of kept links that begins with this number.
+fn word_from(links: &Links, first: usize) -> u64 {
+    let mut word = 0;
+    for bit in 0..64 {
+        if links.holds(first.saturating_add(bit)) {
+            word |= 1 << bit;
+        }
+    }
+    word
+}
+
+// The figures of a report.
+pub(crate) fn figures_of<V: Scale>(report: &Report<V>) -> Figures
+    ensures plan { result.plan ≡ report.now.plan }
+    ensures numbers { (result.kept_count ≡ report.now.kept_count) × (result.share ≡ report.now.share) }
+{
+    let (tree_first, tree_second) = report.tree.show();
+    let (score_first, score_second) = report.score.show();
+    let (removed_first, removed_second) = report.removed.show();
+    let (ceiling_first, ceiling_second) = report.ceiling.show();
+    Figures {
+        plan: report.plan,
+        kept: array::from_fn(|k| word_from(&report.kept, k.saturating_mul(64))),
+        share: report.share,
+        kept_count: report.kept_count,
+        tree_first,
+        tree_second,
+        score_first,
+        score_second,
+        removed_first,
+        removed_second,
+        ceiling_first,
+        ceiling_second,
+    }
+}
