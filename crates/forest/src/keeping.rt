@@ -32,11 +32,15 @@ fn relabel(low: usize, high: usize, label: usize) -> usize
 }
 
 // The same of each label.
-fn relabelled(labels: [usize; NODES], low: usize, high: usize) -> [usize; NODES]
+fn relabelled(mut labels: [usize; NODES], low: usize, high: usize) -> [usize; NODES]
     requires { high < 128 }
     ensures { (a : ℕ) → label_in result a ≡ relabel low high (label_in labels a) }
 {
-    labels.map(|label| relabel(low, high, label))
+    // By index, in place: `map` would make another array, label by label.
+    for a in 0..NODES {
+        labels[a] = relabel(low, high, labels[a]);
+    }
+    labels
 }
 
 impl Parts {
