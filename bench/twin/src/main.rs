@@ -239,8 +239,15 @@ fn median(mut times: Vec<f64>) -> f64 {
 
 const ROUNDS: usize = 61;
 
-/// Medians of the time for one run of each, in microseconds. The two take turns; each sample is the time of many runs in one call, less that of one.
-fn race(mut engine: impl FnMut(u32), mut twin: impl FnMut(u32)) -> (f64, f64) {
+/// What a race shows: medians of microseconds for one run of each, and of the ratio in one turn.
+struct Shown {
+    engine: f64,
+    twin: f64,
+    ratio: f64,
+}
+
+/// The two take turns. Each sample is the time of many runs in one call, less that of one.
+fn race(mut engine: impl FnMut(u32), mut twin: impl FnMut(u32)) -> Shown {
     let once = |work: &mut dyn FnMut(u32), times: u32| {
         let one = seconds(|| work(1));
         let more = seconds(|| work(1 + times));
@@ -262,10 +269,11 @@ fn race(mut engine: impl FnMut(u32), mut twin: impl FnMut(u32)) -> (f64, f64) {
             one.push(once(&mut engine, engine_times));
         }
     }
-    (median(one), median(other))
+    let ratios = one.iter().zip(&other).map(|(engine, twin)| engine / twin.max(1e-6)).collect();
+    Shown { engine: median(one), twin: median(other), ratio: median(ratios) }
 }
 
-fn race_solve(Input { code, bytes, .. }: &Input) -> (f64, f64) {
+fn race_solve(Input { code, bytes, .. }: &Input) -> Shown {
     let (mut one, mut other) = (Stores::new(), Stores::new());
     race(
         |times| assert_eq!(engine_solve(*code, bytes, times, &mut one), 0),
@@ -273,11 +281,11 @@ fn race_solve(Input { code, bytes, .. }: &Input) -> (f64, f64) {
     )
 }
 
-fn race_read(Input { code, bytes, .. }: &Input) -> (f64, f64) {
+fn race_read(Input { code, bytes, .. }: &Input) -> Shown {
     race(|times| assert_eq!(engine_read(*code, bytes, times), 0), |times| assert_eq!(twin_read(*code, bytes, times), 0))
 }
 
-fn race_write(Input { code, bytes, .. }: &Input) -> (f64, f64) {
+fn race_write(Input { code, bytes, .. }: &Input) -> Shown {
     let (mut one, mut other) = (vec![0; 16_784], vec![0; 16_784]);
     race(
         |times| assert_eq!(engine_write(*code, bytes, times, &mut one), bytes.len() as u64),
@@ -285,12 +293,12 @@ fn race_write(Input { code, bytes, .. }: &Input) -> (f64, f64) {
     )
 }
 
-fn row(input: &Input, (engine, twin): (f64, f64)) {
+fn row(input: &Input, Shown { engine, twin, ratio }: Shown) {
     let Input { name, code, entries, .. } = input;
-    println!("| {name} | {code} | {entries} | {engine:.2} | {twin:.2} | {:.1} | {:.1} |", engine / twin, 1000.0 * engine / *entries as f64);
+    println!("| {name} | {code} | {entries} | {engine:.2} | {twin:.2} | {ratio:.1} | {:.1} |", 1000.0 * engine / *entries as f64);
 }
 
-fn table(title: &str, inputs: &[Input], race: impl Fn(&Input) -> (f64, f64)) {
+fn table(title: &str, inputs: &[Input], race: impl Fn(&Input) -> Shown) {
     println!("\n{title}\n");
     println!("| problem | scale | entries | engine µs | twin µs | ratio | engine ns an entry |");
     println!("|---|---|---|---|---|---|---|");
