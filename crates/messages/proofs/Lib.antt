@@ -10,3 +10,4 @@ pub mod Writing
 pub mod OfPlaces
 pub mod FunctionSent
 pub mod Passing
+pub mod Following

@@ -23,12 +23,14 @@ pub(crate) fn lay_cut<V: Scale>(places: &Places, table: &[u32], words: &mut [u32
     requires words { length words.old ≡ length table.now }
     ensures { CutWords V.Scale.rules places.now table.now words.new }
 {
+    let mut values = places.combination(0);
     for (at, word) in table.iter().enumerate() {
-        let key = places.cut_index_of(at);
+        let key = places.cut_index(values);
         words[key] = if key == at {
             *word
         } else {
             lower::<V>(words[key], *word)
         };
+        values = places.following(values);
     }
 }

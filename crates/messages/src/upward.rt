@@ -72,13 +72,14 @@ pub(crate) fn best_entries<V: Scale>(
     ensures same { SameLent values.old values.new }
 {
     let mut best = [None; ROW];
+    let mut combination = places.combination(0);
     for (at, word) in cuts.iter().enumerate() {
-        if places.cut_index_of(at) == at {
-            let combination = places.combination(at);
+        if places.cut_index(combination) == at {
             let value = V::value_of(*word).join(from_below(places, values, combination));
             let x = combination[places.parent];
             best[x] = consider(function, x, best[x], value, at as u16, values);
         }
+        combination = places.following(combination);
     }
     best
 }

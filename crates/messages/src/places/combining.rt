@@ -1,8 +1,8 @@
 // Combinations of values at the places of a function.
-ghost use Rattle.std.specs.Prelude.{◌≡◌, ℕ, ◌<◌, ◌≤◌, take, slice_index};
+ghost use Rattle.std.specs.Prelude.{◌≡◌, ℕ, ◌+◌, ◌<◌, take, slice_index};
 ghost use Rattle.theory.specs.Problem.{product, index};
 ghost use Rattle.messages.specs.Combinations.{combination, cleared};
-ghost use Rattle.messages.specs.Places.{place_in, count_in, sizes_in, cut_index};
+ghost use Rattle.messages.specs.Places.{place_in, count_in, sizes_in};
 
 use crate::places::Places;
 use layout::MOST_PLACES;
@@ -33,7 +33,8 @@ impl Places {
     // The index at which these values stand, with 0 at the removed places.
     pub(crate) fn cut_index(&self, values: [usize; MOST_PLACES]) -> usize
         requires { (p : ℕ) → p < count_in self.now → slice_index values p < (place_in self.now p).size }
-        ensures { result ≡ index (sizes_in self.now) (cleared (λ p. (place_in self.now p).kept) (take (count_in self.now) values)) }
+        ensures value { result ≡ index (sizes_in self.now) (cleared (λ p. (place_in self.now p).kept) (take (count_in self.now) values)) }
+        ensures inside { result < product (sizes_in self.now) }
     {
         let mut index = 0;
         for (p, place) in self.list().iter().enumerate() {
@@ -43,12 +44,20 @@ impl Places {
         index
     }
 
-    // The index with 0 at the removed places, and the values of this one at the kept places.
-    pub(crate) fn cut_index_of(&self, index: usize) -> usize
-        requires { index < product (sizes_in self.now) }
-        ensures value { result ≡ cut_index self.now index }
-        ensures low { result ≤ index }
+    // The values at the next index, where these stand at some index: a division at each index would take longer than all else there.
+    pub(crate) fn following(&self, values: [usize; MOST_PLACES]) -> [usize; MOST_PLACES]
+        requires { (p : ℕ) → p < count_in self.now → slice_index values p < (place_in self.now p).size }
+        ensures next { (i : ℕ) → i + 1 < product (sizes_in self.now) → take (count_in self.now) values ≡ combination (sizes_in self.now) i → take (count_in self.now) result ≡ combination (sizes_in self.now) (i + 1) }
+        ensures small { (p : ℕ) → p < count_in self.now → slice_index result p < (place_in self.now p).size }
     {
-        self.cut_index(self.combination(index))
+        let mut next = values;
+        let mut carry = 1;
+        for (p, place) in self.list().iter().enumerate().rev() {
+            let value = next[p] + carry;
+            let full = value >= place.size;
+            next[p] = if full { 0 } else { value };
+            carry = if full { 1 } else { 0 };
+        }
+        next
     }
 }

@@ -5,9 +5,9 @@ use Rattle.scale.specs.Rules.{Rules}
 use Rattle.scale.specs.Laws.{Plain}
 use Rattle.board.specs.SameLent.{SameLent}
 use Rattle.board.proofs.SameLent.{same_self, same_both}
-use Rattle.theory.specs.Problem.{product}
+use Rattle.theory.specs.Problem.{product, index}
 use Rattle.messages.specs.declared.places.Places.{Places}
-use Rattle.messages.specs.Combinations.{combination}
+use Rattle.messages.specs.Combinations.{combination, cleared}
 use Rattle.joining.specs.Counts.{counts}
 use Rattle.joining.specs.Standing.{StandsFor}
 use Rattle.messages.specs.Places.{count_in, place_in, sizes_in, cut_index}
@@ -16,7 +16,7 @@ use Rattle.messages.specs.Upward.{gives, best_of, better, Candidate, BelowHeld, 
 use Rattle.joining.proofs.Joining.{join_stands}
 use Rattle.messages.proofs.Running.{upward_same, passed, with_one}
 use Rattle.messages.proofs.upward.best_entries.Goals as goal
-use Rattle.messages.proofs.upward.best_entries.Goals.{then-cut_index_of-at, else-cut_index_of-at}
+use Rattle.messages.proofs.upward.best_entries.Goals.{then-cut_index-at, else-cut_index-at}
 
 pub loop-at-init : goal.loop-at-init
 loop-at-init g c =
@@ -28,6 +28,8 @@ loop-at-init g c =
           (sym (get_or-replicate 16 x None None h)) (λ j low. absurd (omega arith)),
       λ k d apart. refl,
       same_self c.args.values.now,
+      c.combination-combination.ensures.values,
+      c.combination-combination.ensures.small,
     )
 
 -- What a turn keeps, at the index i.
@@ -75,17 +77,19 @@ loop-at-preserved g c =
     let row = c.loop-at.best in
     let cells = c.loop-at.values.cells.now in
     let inv = c.loop-at.invariant in
+    let inside : i < product (sizes_in s) = omega (arith, c.requires.cuts, c.loop-at-test.true) in
+    let stand = inv.4 inside in
+    let key_is : c.cut_index.result ≡ cut_index s i = c.cut_index.ensures.value ∙ ap (λ (zs : List ℕ). index (sizes_in s) (cleared (λ p. (place_in s p).kept) zs)) stand in
+    let next = c.following-combination.ensures in
     let Bests : List (Option ℕ) → List g.row.V.Denot → Type 0 = BestEntries v.rules v.means v.within s f cuts before (i + 1) in
-    elim c.if-cut_index_of-at.branch [
-      | then-cut_index_of-at w ↦
-          let own : cut_index s i ≡ i = sym c.cut_index_of.ensures.value ∙ w.if-cut_index_of-at.true in
-          let xs = w.combination-combination.result in
+    elim c.if-cut_index-at.branch [
+      | then-cut_index-at w ↦
+          let own : cut_index s i ≡ i = sym key_is ∙ w.if-cut_index-at.true in
+          let xs = c.loop-at.combination in
           let ys = combination (sizes_in s) i in
-          let inside : i < product (sizes_in s) = omega (arith, c.requires.cuts, c.loop-at-test.true) in
-          let values = w.combination-combination.ensures.values inside in
-          let same : (p : ℕ) → p < count_in s → get_or xs p 0 ≡ get_or ys p 0 = λ p h. sym (get_or-take (count_in s) xs p 0 h) ∙ ap (λ (zs : List ℕ). get_or zs p 0) values in
+          let same : (p : ℕ) → p < count_in s → get_or xs p 0 ≡ get_or ys p 0 = λ p h. sym (get_or-take (count_in s) xs p 0 h) ∙ ap (λ (zs : List ℕ). get_or zs p 0) stand in
           let x₀ = get_or xs s.parent 0 in
-          let fits = w.combination-combination.ensures.small s.parent c.requires.parent in
+          let fits = inv.5 s.parent c.requires.parent in
           let small : x₀ < 16 = omega (arith, (s.small s.parent c.requires.parent).2) in
           let candidate : Candidate s x₀ i = (own, sym (same s.parent c.requires.parent)) in
           let unmoved : (p x : ℕ) → p < count_in s → x < 16 → (d : g.row.V.Denot) → get_or cells (variable_cell (place_in s p).variable x) d ≡ get_or before (variable_cell (place_in s p).variable x) d =
@@ -108,18 +112,22 @@ loop-at-preserved g c =
           let cells' = w.consider.new.values.cells.now in
           let bests = taken v.rules laws v.means v.within s f cuts before i row cells inv.1 x₀ small w.join-value.result inv.0 candidate stands w.consider.result cells' told.here told.values in (
             ap length w.best-is ∙ length-set row x₀ w.consider.result ∙ inv.0,
-            subst (λ b. Bests b c.if-cut_index_of-at.values.cells.now) (sym w.best-is) (subst (λ b. Bests (set row x₀ w.consider.result) b.cells.now) (sym w.values-is) bests),
+            subst (λ b. Bests b c.if-cut_index-at.values.cells.now) (sym w.best-is) (subst (λ b. Bests (set row x₀ w.consider.result) b.cells.now) (sym w.values-is) bests),
             subst (λ b. OnlyAt (λ k. (x : ℕ) × (x < (place_in s s.parent).size) × (k ≡ function_cell f x)) before b.cells.now) (sym w.values-is)
                 (only_row (function_cell f) (place_in s s.parent).size x₀ before cells cells' fits inv.2 told.values),
             subst (SameLent c.args.values.now) (sym w.values-is) (same_both inv.3 told.same),
+            λ h. next.next i h stand,
+            next.small,
           )
-      | else-cut_index_of-at w ↦
-          let other : cut_index s i ≡ i → ⊥ = λ e. w.if-cut_index_of-at.false (c.cut_index_of.ensures.value ∙ e) in
+      | else-cut_index-at w ↦
+          let other : cut_index s i ≡ i → ⊥ = λ e. w.if-cut_index-at.false (key_is ∙ e) in
           let bests = skipped v.rules laws v.means v.within s f cuts before i row cells inv.1 other in (
             ap length w.best-is ∙ inv.0,
-            subst (λ b. Bests b c.if-cut_index_of-at.values.cells.now) (sym w.best-is) (subst (λ b. Bests row b.cells.now) (sym w.values-is) bests),
+            subst (λ b. Bests b c.if-cut_index-at.values.cells.now) (sym w.best-is) (subst (λ b. Bests row b.cells.now) (sym w.values-is) bests),
             subst (λ b. OnlyAt (λ k. (x : ℕ) × (x < (place_in s s.parent).size) × (k ≡ function_cell f x)) before b.cells.now) (sym w.values-is) inv.2,
             subst (SameLent c.args.values.now) (sym w.values-is) inv.3,
+            λ h. next.next i h stand,
+            next.small,
           )
     ]
 

@@ -1,9 +1,10 @@
 use Rattle.std.proofs.Common.{◌≡◌, ℕ, ◌+◌, ◌*◌, ◌<◌, cond, length, get_or, take, Fits, w64, sym, ap, ◌∙◌, subst, ap₂, arith}
 use Rattle.std.proofs.lemmas.Bool.{cond-true, cond-false}
 use Rattle.theory.specs.Problem.{index}
+use Rattle.theory.proofs.Index.{index_below}
 use Rattle.messages.specs.declared.place.Place.{Place}
 use Rattle.messages.specs.Places.{count_in, place_in, sizes_in}
-use Rattle.messages.proofs.PlaceSizes.{place_is, shown_values, shown_step, shown_small, shown_all}
+use Rattle.messages.proofs.PlaceSizes.{place_is, shown_values, shown_within, shown_step, shown_small, shown_all}
 use Rattle.messages.proofs.places.Places.cut_index.Goals as goal
 use Rattle.messages.proofs.places.Places.cut_index.Goals.{then-place, else-place}
 
@@ -46,8 +47,16 @@ loop-p-preserved c =
     ap (λ (x : Place). c.loop-p.index * x.size + c.if-place.value) here
     ∙ ap₂ (λ (n m : ℕ). n * (place_in s p).size + m) c.loop-p.invariant value ∙ shown_step s c.args.values (omega arith) c.requires p low
 
-pub returns : goal.returns
-returns c =
+pub returns-clause-value : goal.returns-clause-value
+returns-clause-value c =
     let s = c.args.self.now in
     let end : c.loop-p.p ≡ count_in s = omega (arith, c.loop-p-test.false, c.loop-p.auto.p-end, ap length c.list-place-items.ensures.list) in
     c.loop-p.invariant ∙ ap (λ (n : ℕ). index (take n (sizes_in s)) (take n (shown_values s c.args.values (omega arith) c.requires))) end ∙ shown_all s c.args.values (omega arith) c.requires
+
+pub returns-clause-inside : goal.returns-clause-inside
+returns-clause-inside c =
+    let s = c.args.self.now in
+    let end : c.loop-p.p ≡ count_in s = omega (arith, c.loop-p-test.false, c.loop-p.auto.p-end, ap length c.list-place-items.ensures.list) in
+    let is : c.loop-p.index ≡ index (sizes_in s) (shown_values s c.args.values (omega arith) c.requires) =
+    c.loop-p.invariant ∙ ap (λ (n : ℕ). index (take n (sizes_in s)) (take n (shown_values s c.args.values (omega arith) c.requires))) end ∙ shown_all s c.args.values (omega arith) c.requires in
+    omega (arith, is, index_below (sizes_in s) (shown_values s c.args.values (omega arith) c.requires) (shown_within s c.args.values (omega arith) c.requires))
