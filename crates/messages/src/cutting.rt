@@ -25,12 +25,12 @@ pub(crate) fn lay_cut<V: Scale>(places: &Places, table: &[u32], words: &mut [u32
 {
     let mut values = places.combination(0);
     for (at, word) in table.iter().enumerate() {
-        let key = places.cut_index(values);
+        let key = places.cut_index(&values);
         words[key] = if key == at {
             *word
         } else {
             lower::<V>(words[key], *word)
         };
-        values = places.following(values);
+        places.advance(&mut values);
     }
 }

@@ -15,10 +15,10 @@ use layout::{MOST_PLACES, MOST_VARIABLES};
 use scale::Scale;
 
 // What comes up from the variables below, at these values of the places.
-fn from_below<V: Scale>(places: &Places, values: &Board<V>, combination: [usize; MOST_PLACES]) -> V
+fn from_below<V: Scale>(places: &Places, values: &Board<V>, combination: &[usize; MOST_PLACES]) -> V
     requires rows { 64 ≤ values.now.rows }
-    requires inside { (p : ℕ) → p < count_in places.now → slice_index combination p < (place_in places.now p).size }
-    ensures { (q : ℕ → ℕ → V.Scale.Exact) (n : ℕ → ℕ → ℕ) → BelowHeld V.Scale.rules V.Scale.means V.Scale.within places.now values.now.cells.now q n → upward counts places.now n combination (count_in places.now) ≤ 1024 → StandsFor V.Scale.means V.Scale.within (upward V.Scale.rules places.now q combination (count_in places.now)) (upward counts places.now n combination (count_in places.now)) result }
+    requires inside { (p : ℕ) → p < count_in places.now → slice_index combination.now p < (place_in places.now p).size }
+    ensures { (q : ℕ → ℕ → V.Scale.Exact) (n : ℕ → ℕ → ℕ) → BelowHeld V.Scale.rules V.Scale.means V.Scale.within places.now values.now.cells.now q n → upward counts places.now n combination.now (count_in places.now) ≤ 1024 → StandsFor V.Scale.means V.Scale.within (upward V.Scale.rules places.now q combination.now (count_in places.now)) (upward counts places.now n combination.now (count_in places.now)) result }
 {
     let list = places.list();
     joined(list.len(), |p| {
@@ -74,12 +74,12 @@ pub(crate) fn best_entries<V: Scale>(
     let mut best = [None; ROW];
     let mut combination = places.combination(0);
     for (at, word) in cuts.iter().enumerate() {
-        if places.cut_index(combination) == at {
-            let value = V::value_of(*word).join(from_below(places, values, combination));
+        if places.cut_index(&combination) == at {
+            let value = V::value_of(*word).join(from_below(places, values, &combination));
             let x = combination[places.parent];
             best[x] = consider(function, x, best[x], value, at as u16, values);
         }
-        combination = places.following(combination);
+        places.advance(&mut combination);
     }
     best
 }

@@ -31,9 +31,9 @@ impl Places {
     }
 
     // The index at which these values stand, with 0 at the removed places.
-    pub(crate) fn cut_index(&self, values: [usize; MOST_PLACES]) -> usize
-        requires { (p : ℕ) → p < count_in self.now → slice_index values p < (place_in self.now p).size }
-        ensures value { result ≡ index (sizes_in self.now) (cleared (λ p. (place_in self.now p).kept) (take (count_in self.now) values)) }
+    pub(crate) fn cut_index(&self, values: &[usize; MOST_PLACES]) -> usize
+        requires { (p : ℕ) → p < count_in self.now → slice_index values.now p < (place_in self.now p).size }
+        ensures value { result ≡ index (sizes_in self.now) (cleared (λ p. (place_in self.now p).kept) (take (count_in self.now) values.now)) }
         ensures inside { result < product (sizes_in self.now) }
     {
         let mut index = 0;
@@ -44,20 +44,18 @@ impl Places {
         index
     }
 
-    // The values at the next index, where these stand at some index: a division at each index would take longer than all else there.
-    pub(crate) fn following(&self, values: [usize; MOST_PLACES]) -> [usize; MOST_PLACES]
-        requires { (p : ℕ) → p < count_in self.now → slice_index values p < (place_in self.now p).size }
-        ensures next { (i : ℕ) → i + 1 < product (sizes_in self.now) → take (count_in self.now) values ≡ combination (sizes_in self.now) i → take (count_in self.now) result ≡ combination (sizes_in self.now) (i + 1) }
-        ensures small { (p : ℕ) → p < count_in self.now → slice_index result p < (place_in self.now p).size }
+    // Makes the values at an index those at the next one: a division at each index, or a copy, would take longer than all else there.
+    pub(crate) fn advance(&self, values: &mut [usize; MOST_PLACES])
+        requires { (p : ℕ) → p < count_in self.now → slice_index values.old p < (place_in self.now p).size }
+        ensures next { (i : ℕ) → i + 1 < product (sizes_in self.now) → take (count_in self.now) values.old ≡ combination (sizes_in self.now) i → take (count_in self.now) values.new ≡ combination (sizes_in self.now) (i + 1) }
+        ensures small { (p : ℕ) → p < count_in self.now → slice_index values.new p < (place_in self.now p).size }
     {
-        let mut next = values;
         let mut carry = 1;
         for (p, place) in self.list().iter().enumerate().rev() {
-            let value = next[p] + carry;
+            let value = values[p] + carry;
             let full = value >= place.size;
-            next[p] = if full { 0 } else { value };
+            values[p] = if full { 0 } else { value };
             carry = if full { 1 } else { 0 };
         }
-        next
     }
 }

@@ -38,8 +38,8 @@ loop-at-preserved g c =
                   w.words-is ∙ w.lower.ensures ∙ ap (λ (o : ℕ). cond (v.rules.leq (v.rules.reads new) (v.rules.reads o)) new o) old,
             )
           ])),
-      λ h. c.following-values.ensures.next i h stand,
-      c.following-values.ensures.small,
+      λ h. c.advance.ensures.next i h stand,
+      c.advance.ensures.small,
     )
 
 pub returns : goal.returns

@@ -80,7 +80,7 @@ loop-at-preserved g c =
     let inside : i < product (sizes_in s) = omega (arith, c.requires.cuts, c.loop-at-test.true) in
     let stand = inv.4 inside in
     let key_is : c.cut_index.result ≡ cut_index s i = c.cut_index.ensures.value ∙ ap (λ (zs : List ℕ). index (sizes_in s) (cleared (λ p. (place_in s p).kept) zs)) stand in
-    let next = c.following-combination.ensures in
+    let next = c.advance.ensures in
     let Bests : List (Option ℕ) → List g.row.V.Denot → Type 0 = BestEntries v.rules v.means v.within s f cuts before (i + 1) in
     elim c.if-cut_index-at.branch [
       | then-cut_index-at w ↦

@@ -13,12 +13,12 @@ pub returns : goal.returns
 returns g c = λ q n held few.
     let v = g.V.Scale in
     let s = c.args.places.now in
-    let x = get_or c.args.combination in
+    let x = get_or c.args.combination.now in
     let d = c.joined.result in
     let told = c.list-list.ensures.list in
     let long : length c.list-list.result.now ≡ count_in s = ap length told in
     let k : ℕ → ℕ = λ p. when counts (place_in s p).below (n (place_in s p).variable (x p 0)) in
-    subst (λ (i : ℕ). StandsFor v.means v.within (upward v.rules s q c.args.combination i) (upward counts s n c.args.combination i) d) long
+    subst (λ (i : ℕ). StandsFor v.means v.within (upward v.rules s q c.args.combination.now i) (upward counts s n c.args.combination.now i) d) long
     (c.joined.ensures (λ p. when v.rules (place_in s p).below (q (place_in s p).variable (x p 0))) k
     (λ p o low given.
     given_where v.rules v.means v.within (place_in s p).below (q (place_in s p).variable (x p 0)) (n (place_in s p).variable (x p 0))
