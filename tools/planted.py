@@ -1,7 +1,7 @@
 #!/usr/bin/env python3
 """Plants bugs in a copy of the repository, one at a time, and asks the prover to refuse each.
 
-usage: python3 tools/planted.py [--list] [--check] [--only WORD] [--into FOLDER] [CRATE..]
+usage: python3 tools/planted.py [--list] [--check] [--only WORD] [--first N] [--into FOLDER] [CRATE..]
 
 The bugs are listed in tools/planted/CRATE.txt, a block of lines for each, with an empty line between blocks:
 
@@ -16,7 +16,8 @@ with a crate's bugs in the place of its must-fail edits; `rt must-fail CRATE` th
 refused it, with the place of the first error, or whether it survived, then the counts. A bug that no contract refuses shows a contract that is
 too weak, if it is a bug. Without a CRATE every crate with a list is tried, from the lowest up.
 
---list prints the bugs and tries none. --check tells which of them cannot be applied, and tries none. --only takes the bugs whose names have WORD.
+--list prints the bugs and tries none. --check tells which of them cannot be applied, and tries none. --only takes the bugs whose names have WORD,
+--first the first N of each crate.
 The status is 0 if every bug that was tried was refused.
 """
 
@@ -169,6 +170,7 @@ def main():
     asked.add_argument("--list", action="store_true")
     asked.add_argument("--check", action="store_true")
     asked.add_argument("--only", default="")
+    asked.add_argument("--first", type=int)
     asked.add_argument("--into", default="/tmp/planted")
     asked.add_argument("crates", nargs="*")
     given = asked.parse_args()
@@ -177,7 +179,7 @@ def main():
         if name not in lists:
             sys.exit(f"there is no tools/planted/{name}.txt")
     crates = given.crates or [it for it in crates_in_order() if it in lists]
-    plants = {crate: [it for it in plants_of(crate) if given.only in it.name] for crate in crates}
+    plants = {crate: [it for it in plants_of(crate) if given.only in it.name][: given.first] for crate in crates}
     faults = [f"{crate}/{it.name}: {it.fault()}" for crate in crates for it in plants[crate] if it.fault()]
     if given.list:
         for crate in crates:
