@@ -14,7 +14,7 @@ The bugs are listed in tools/planted/CRATE.txt, a block of lines for each, with 
 Lines that begin with # are not read. The files are copied to a folder below /tmp (--into: another one), which is kept for the next run,
 with a crate's bugs in the place of its must-fail edits; `rt must-fail CRATE` then tries them there. For each bug it prints whether the prover
 refused it, with the place of the first error, or whether it survived, then the counts. A bug that no contract refuses shows a contract that is
-too weak, if it is a bug. Without a CRATE every crate with a list is tried, from the lowest up.
+too weak, if it is a bug. One that is refused for a name alone shows little: a proof file cites what the bug took away. Without a CRATE every crate with a list is tried, from the lowest up.
 
 --list prints the bugs and tries none. --check tells which of them cannot be applied, and tries none. --only takes the bugs whose names have WORD,
 --first the first N of each crate.
@@ -33,8 +33,8 @@ LISTS = os.path.join(ROOT, "tools", "planted")
 SAID = re.compile(r"must-fail (\w+)/(\w+)\.edit: (.*)", re.S)
 PLACE = re.compile(r"(?:note: )?(?:\./)?((src|proofs|specs)/\S+?:\d+)")
 
-SRC, PROOFS, LIMIT, SURVIVED, BAD = "refused at src/", "refused at proofs/", "refused by a limit alone", "survived", "not tried"
-ENDS = [SRC, PROOFS, LIMIT, SURVIVED, BAD]
+SRC, PROOFS, NAMES, LIMIT, SURVIVED, BAD = "refused at src/", "refused at proofs/", "refused for a name alone", "refused by a limit alone", "survived", "not tried"
+ENDS = [SRC, PROOFS, NAMES, LIMIT, SURVIVED, BAD]
 
 
 class Plant:
@@ -159,9 +159,10 @@ def tried(into, crate, plants):
         elif text.startswith(("BAD EDIT", "NOT TRIED")):
             ends[name] = BAD, text
         elif text.startswith("refused"):
+            # (a remark in brackets may stand before the first error)
             place = PLACE.search(text)
-            by_limit = "only by a limit" in text
-            ends[name] = LIMIT if by_limit else SRC if place and place.group(2) == "src" else PROOFS, text.partition(": ")[2]
+            end = NAMES if "only because a proof file names" in text else LIMIT if "only by a limit" in text else SRC if place and place.group(2) == "src" else PROOFS
+            ends[name] = end, text[place.start() :] if place else ""
     return {it.name: ends.get(it.name, (BAD, f"nothing was said of it: see {into}/{crate}.log")) for it in plants}
 
 
@@ -203,7 +204,7 @@ def main():
             print(f"{crate}/{name} ({kind}): {end}{': ' + text if text else ''}", flush=True)
         print(f"{crate}: {len(plants[crate])} planted; " + ", ".join(f"{n} {end}" for end, n in own.items() if n), flush=True)
     print(f"all: {sum(counts.values())} planted; " + ", ".join(f"{n} {end}" for end, n in counts.items() if n))
-    return 1 if counts[SURVIVED] or counts[BAD] else 0
+    return 1 if counts[NAMES] or counts[LIMIT] or counts[SURVIVED] or counts[BAD] else 0
 
 
 if __name__ == "__main__":
