@@ -36,6 +36,9 @@ mod tests {
         plan[1] = 2;
         let layout = cube(2, 3, 1).map_err(refused)?;
         assert_eq!(rt; layout.index(0, plan), 5);
+        // (by the first place alone, which a first place that varies fastest would put at 1)
+        plan[1] = 0;
+        assert_eq!(rt; layout.index(0, plan), 3);
         Ok(())
     }
 

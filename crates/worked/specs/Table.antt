@@ -35,9 +35,9 @@ PointsEntry = points.entry 1000000 ≡ true
 abbrev pub PointsNone : Type 0
 PointsNone = points.entry 1000001 ≡ false
 
--- with sizes 2 and 3, the values 1 and 2 stand at index 5
+-- with sizes 2 and 3, the values 1 and 2 stand at index 5, and 1 and 0 at index 3: the last place varies fastest
 abbrev pub IndexOfTwo : Type 0
-IndexOfTwo = index (2 ∷ 3 ∷ []) (1 ∷ 2 ∷ []) ≡ 5
+IndexOfTwo = (index (2 ∷ 3 ∷ []) (1 ∷ 2 ∷ []) ≡ 5) × (index (2 ∷ 3 ∷ []) (1 ∷ 0 ∷ []) ≡ 3)
 
 -- The pair, in points: two variables of size 2, and two functions of both.
 abbrev pub pair : Problem
