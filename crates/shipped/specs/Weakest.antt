@@ -4,10 +4,11 @@ use Rattle.scale.specs.Rules.{Rules}
 use Rattle.scale.specs.Levels.{Level}
 use Rattle.scale.specs.declared.weakest.Weakest.{Weakest}
 use Rattle.theory.specs.Problem.{Problem, Plan, Valid, functions}
+use Rattle.theory.specs.KeptBy.{straight}
 use Rattle.rules.specs.Figures.{Figures, planned}
 use Rattle.calls.specs.State.{Standing, State, Call, Answer}
 use Rattle.calls.specs.Step.{Runs, Begins}
-use Rattle.calls.specs.Promise.{AllPlain}
+use Rattle.calls.specs.Promise.{plain, AllPlain}
 use Rattle.shipped.specs.Plain.{lowest_below, word_at, AreLevels}
 
 -- the number that a word reads as: itself up to 1,000, and 1,000 above
@@ -43,6 +44,15 @@ module _ (P : Problem) where
     -- no plan's score passes the ceiling, and ours reaches it, so that no plan is better
     pub at_most_ceiling : (y : Plan) → Valid P y → weakest_score y ≤ figures.ceiling.size
     pub reached : figures.score.size ≡ figures.ceiling.size
+
+-- The calls that this scale has are all but a bounded solve and a weight.
+pub record HasCalls : Type 0 where
+  pub variable : (size : ℕ) → plain (Call.add_variable size) ≡ true
+  pub function : (scope : List ℕ) → plain (Call.add_function scope) ≡ true
+  pub entry : (f index word : ℕ) → plain (Call.set_entry f index word) ≡ true
+  pub solve : (values choices : ℕ) → plain (Call.solve straight values choices) ≡ true
+  pub report : plain Call.report ≡ true
+  pub score : (values : List ℕ) → plain (Call.score values) ≡ true
 
 -- From any start, after any list of the calls that this scale has, a report that stands says so of the problem as it is then.
 abbrev pub WeakestPromise : Rules Level → Type 0

@@ -5,7 +5,7 @@
 ghost use Rattle.shipped.specs.Points.{AreWhole, PointsPromise};
 ghost use Rattle.shipped.specs.Capped.{AreCapped, CappedPromise};
 ghost use Rattle.shipped.specs.Ranked.{AreRanked, RankedPromise};
-ghost use Rattle.shipped.specs.Weakest.{AreWeakest, WeakestPromise};
+ghost use Rattle.shipped.specs.Weakest.{AreWeakest, HasCalls, WeakestPromise};
 
 use scale::{Capped, Points, Ranked, Scale, Weakest};
 
@@ -30,5 +30,6 @@ pub fn ranked_promise()
 // Numbers from 0 to 1,000, of which the lowest counts.
 pub fn weakest_promise()
     ensures rules { AreWeakest ⟦<Weakest as Scale>⟧.rules ⟦<Weakest as Scale>⟧.means }
+    ensures calls { HasCalls }
     ensures promise { WeakestPromise ⟦<Weakest as Scale>⟧.rules }
 {}
