@@ -10,4 +10,5 @@ mod solving_straight;
 mod telling;
 
 pub use answering::sheet;
-pub use printing::Sheet;
+pub use printing::{Sheet, Unheaded};
+pub use telling::told;

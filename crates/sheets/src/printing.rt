@@ -26,13 +26,19 @@ fn write_plan<W: fmt::Write>(sheet: &Sheet, f: &mut fmt::Formatter<W>) -> fmt::R
     Ok(())
 }
 
+// A sheet without its first line, which names the scale.
+#[derive(Clone, Copy)]
+pub struct Unheaded<'a>(pub &'a Sheet);
+
 // Line by line, the last one without its line feed.
-impl fmt::Display for Sheet {
+impl fmt::Display for Unheaded<'_> {
     fn fmt<W: fmt::Write>(&self, f: &mut fmt::Formatter<W>) -> fmt::Result {
-        let (tree, score, removed, ceiling) = (self.tree, self.score, self.removed, self.ceiling);
-        write!(f, "scale {}\nplan", self.scale)?;
-        write_plan(self, f)?;
-        write!(f, "\nkept {}\ntree {} {}\n", self.kept, tree.0, tree.1)?;
+        let sheet = self.0;
+        let (tree, score) = (sheet.tree, sheet.score);
+        let (removed, ceiling) = (sheet.removed, sheet.ceiling);
+        write!(f, "plan")?;
+        write_plan(sheet, f)?;
+        write!(f, "\nkept {}\ntree {} {}\n", sheet.kept, tree.0, tree.1)?;
         write!(
             f,
             "score {} {}\nremoved {} {}\n",
@@ -41,7 +47,13 @@ impl fmt::Display for Sheet {
         write!(
             f,
             "ceiling {} {}\nshare {}",
-            ceiling.0, ceiling.1, self.share
+            ceiling.0, ceiling.1, sheet.share
         )
+    }
+}
+
+impl fmt::Display for Sheet {
+    fn fmt<W: fmt::Write>(&self, f: &mut fmt::Formatter<W>) -> fmt::Result {
+        write!(f, "scale {}\n{}", self.scale, Unheaded(self))
     }
 }

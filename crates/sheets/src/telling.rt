@@ -8,7 +8,7 @@ use engine::Problem;
 use scale::Scale;
 use solving::Report;
 
-pub(crate) fn told<V: Scale>(problem: &Problem<V>, report: &Report<V>) -> Sheet
+pub fn told<V: Scale>(problem: &Problem<V>, report: &Report<V>) -> Sheet
     ensures { Tells V.Scale.rules (state_of V.Scale.means problem.now).problem (figures_of V.Scale.means report.now) result }
 {
     Sheet {
