@@ -2,6 +2,9 @@
 #![tactic(auto)]
 
 mod asking;
+mod command;
+mod line;
+mod numbers;
 mod open;
 mod opening;
 mod reply;
@@ -10,6 +13,8 @@ mod sitting;
 mod working;
 mod writing;
 
+pub use command::Command;
+pub use line::Line;
 pub use reply::Reply;
 pub use request::Request;
 pub use sitting::Sitting;
