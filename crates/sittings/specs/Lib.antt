@@ -5,3 +5,5 @@ pub mod Working
 pub mod Opening
 pub mod Beginning
 pub mod Writing
+pub mod Numbers
+pub mod Spoken

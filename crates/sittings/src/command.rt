@@ -1,4 +1,7 @@
 // A command, as the words of a line say it.
+ghost use Rattle.std.specs.Prelude.{◌≡◌, ℕ, List, [], ◌∷◌, codes, IfOk, IfSome};
+ghost use Rattle.sittings.specs.Numbers.{AreNumbers};
+ghost use Rattle.sittings.specs.Spoken.{texts, Means};
 
 use crate::numbers::{number, numbers, word};
 use crate::request::Request;
@@ -14,8 +17,33 @@ pub enum Command<'a> {
     Ask(Request),
 }
 
-// What asks for a word in a table.
-fn set<'a>(function: &str, index: &str, text: &str) -> Option<Command<'a>> {
+// The one word that is given.
+fn only<'a>(given: &[&'a str]) -> Option<&'a str>
+    ensures { IfSome result (λ w. texts given.now ≡ w.now ∷ []) }
+{
+    match given {
+        [word] => Some(word),
+        _ => None,
+    }
+}
+
+// A request to which nothing is given.
+fn bare<'a>(given: &[&str], request: Request) -> Option<Command<'a>>
+    ensures { IfSome result (λ c. (texts given.now ≡ []) × (c ≡ Command.Ask request)) }
+{
+    match given {
+        [] => Some(Command::Ask(request)),
+        _ => None,
+    }
+}
+
+// A function, an index and a word.
+fn set<'a>(given: &[&str]) -> Option<Command<'a>>
+    ensures { IfSome result (Means (codes "set") (texts given.now)) }
+{
+    let [function, index, text] = given else {
+        return None;
+    };
     Some(Command::Ask(Request::Set {
         function: number(function)?,
         index: number(index)?,
@@ -23,8 +51,25 @@ fn set<'a>(function: &str, index: &str, text: &str) -> Option<Command<'a>> {
     }))
 }
 
-// A command that is given numbers.
-fn numbered<'a>(name: &str, numbers: Vec<usize>) -> Option<Command<'a>> {
+// A command to which something else than numbers is given.
+fn worded<'a>(name: &str, given: &[&'a str]) -> Option<Command<'a>>
+    ensures { IfSome result (Means name.now (texts given.now)) }
+{
+    match name {
+        "read" => Some(Command::Read(only(given)?)),
+        "write" => Some(Command::Write(only(given)?)),
+        "set" => set(given),
+        "bounded" => bare(given, Request::Bounded),
+        "straight" => bare(given, Request::Straight),
+        "report" => bare(given, Request::Report),
+        _ => None,
+    }
+}
+
+// A command to which numbers are given.
+fn numbered<'a>(name: &str, numbers: Vec<usize>) -> Option<Command<'a>>
+    ensures { IfSome result (λ c. (given : List (List ℕ)) → AreNumbers given numbers.items → Means name.now given c) }
+{
     match (name, numbers.as_slice()) {
         ("open", [code]) => Some(Command::Open(*code)),
         ("variable", [size]) => Some(Command::Ask(Request::Variable(*size))),
@@ -38,22 +83,19 @@ fn numbered<'a>(name: &str, numbers: Vec<usize>) -> Option<Command<'a>> {
     }
 }
 
-// The command that a name and what it is given say, if any.
+// The command that a name and what is given say, if any.
 pub(crate) fn spoken<'a>(
     alloc: Global,
     name: &str,
     given: &[&'a str],
-) -> Result<Option<Command<'a>>, AllocError> {
-    Ok(match (name, given) {
-        ("read", [path]) => Some(Command::Read(path)),
-        ("write", [path]) => Some(Command::Write(path)),
-        ("set", [function, index, text]) => set(function, index, text),
-        ("bounded", []) => Some(Command::Ask(Request::Bounded)),
-        ("straight", []) => Some(Command::Ask(Request::Straight)),
-        ("report", []) => Some(Command::Ask(Request::Report)),
-        _ => match numbers(alloc, given)? {
-            Some(numbers) => numbered(name, numbers),
-            None => None,
-        },
+) -> Result<Option<Command<'a>>, AllocError>
+    ensures { IfOk result (λ r. IfSome r (Means name.now (texts given.now))) }
+{
+    if let Some(command) = worded(name, given) {
+        return Ok(Some(command));
+    }
+    Ok(match numbers(alloc, given)? {
+        Some(numbers) => numbered(name, numbers),
+        None => None,
     })
 }

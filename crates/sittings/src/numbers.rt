@@ -1,14 +1,22 @@
 // The numbers of a line.
+ghost use Rattle.std.specs.Prelude.{ℕ, SomeIff, MatchOption, IfOk, IfSome};
+ghost use Rattle.sittings.specs.Numbers as say;
+ghost use Rattle.sittings.specs.Spoken.{texts};
+
 use std::alloc::{AllocError, Global};
 
-pub(crate) fn number(text: &str) -> Option<usize> {
+pub(crate) fn number(text: &str) -> Option<usize>
+    ensures { SomeIff result (say.IsNumber text.now) (say.number text.now) }
+{
     text.parse::<usize>().ok()
 }
 
 // All texts as numbers, if each is one.
-pub(crate) fn numbers(alloc: Global, texts: &[&str]) -> Result<Option<Vec<usize>>, AllocError> {
+pub(crate) fn numbers(alloc: Global, list: &[&str]) -> Result<Option<Vec<usize>>, AllocError>
+    ensures { IfOk result (λ r. IfSome r (λ v. say.AreNumbers (texts list.now) v.items)) }
+{
     let mut numbers = Vec::new(alloc);
-    for text in texts {
+    for text in list {
         let Some(number) = number(text) else {
             return Ok(None);
         };
@@ -18,7 +26,9 @@ pub(crate) fn numbers(alloc: Global, texts: &[&str]) -> Result<Option<Vec<usize>
 }
 
 // The 16 bits of a number, which may be signed or not.
-fn half(text: &str) -> Option<u16> {
+fn half(text: &str) -> Option<u16>
+    ensures { SomeIff result (say.IsHalf text.now) (say.half text.now) }
+{
     let value = text.parse::<i64>().ok()?;
     match i16::try_from(value) {
         Ok(signed) => Some(signed.cast_unsigned()),
@@ -27,7 +37,9 @@ fn half(text: &str) -> Option<u16> {
 }
 
 // The 32 bits of a number.
-fn whole(text: &str) -> Option<u32> {
+fn whole(text: &str) -> Option<u32>
+    ensures { SomeIff result (say.IsWhole text.now) (say.whole text.now) }
+{
     let value = text.parse::<i64>().ok()?;
     match i32::try_from(value) {
         Ok(signed) => Some(signed.cast_unsigned()),
@@ -36,7 +48,9 @@ fn whole(text: &str) -> Option<u32> {
 }
 
 // A word of a table: one number, or two with a comma between, of which the first is bits 0 to 15 and the second bits 16 to 31.
-pub(crate) fn word(text: &str) -> Option<u32> {
+pub(crate) fn word(text: &str) -> Option<u32>
+    ensures { MatchOption result ((w : ℕ) → say.IsWord text.now w → ⊥) (say.IsWord text.now) }
+{
     match text.split_once(',') {
         Some((first, second)) => Some(u32::from(half(first)?) + u32::from(half(second)?) * 65_536),
         None => whole(text),
