@@ -7,3 +7,4 @@ pub mod Beginning
 pub mod Writing
 pub mod Numbers
 pub mod Spoken
+pub mod Lines

@@ -1,7 +1,6 @@
 -- What a request makes of an open problem, and what is replied. Assumes nothing.
-use Rattle.std.specs.Prelude.{◌≡◌, Option, Some, None, MatchOption}
+use Rattle.std.specs.Prelude.{◌≡◌}
 use Rattle.scale.specs.Rules.{Rules}
-use Rattle.theory.specs.KeptBy.{straight, bounded}
 use Rattle.theory.specs.Problem.{Problem}
 use Rattle.rules.specs.Figures.{Figures}
 use Rattle.calls.specs.Promise.{Carries}
@@ -9,7 +8,7 @@ use Rattle.calls.specs.State.{State, Call, Answer, add_variable, add_function, s
 use Rattle.sheets.specs.declared.printing.Sheet.{Sheet}
 use Rattle.sheets.specs.Sheets.{Tells}
 use Rattle.sittings.specs.declared.reply.Reply.{Reply}
-use Rattle.sittings.specs.declared.reply.Reply.TheVariants.{VariableAdded, FunctionAdded, EntrySet, Weighed, Scored, Told, Refused, Unknown}
+use Rattle.sittings.specs.declared.reply.Reply.TheVariants.{VariableAdded, FunctionAdded, EntrySet, Weighed, Scored, Told, Refused}
 
 module _ {E : Type 0} (R : Rules E) where
   -- the reply shows figures of the problem P
