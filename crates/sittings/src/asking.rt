@@ -11,7 +11,7 @@ use crate::request::Request;
 use engine::Problem;
 use scale::{Measuring, Scale};
 use sheets::told;
-use solving::Report;
+use solving::{CHOICE_CELLS, Report};
 
 pub(crate) fn add_variable<V: Scale>(problem: &mut Problem<V>, size: usize) -> Reply
     ensures { Obeyed V.Scale.rules (state_of V.Scale.means problem.old) (Call.add_variable size) result (state_of V.Scale.means problem.new) }
@@ -49,7 +49,7 @@ pub(crate) fn solve_straight<V: Scale>(problem: &mut Problem<V>, values: &mut [V
     requires { length values.old ≡ 2304 }
     ensures { Obeyed V.Scale.rules (state_of V.Scale.means problem.old) (Call.solve straight 2304 1024) result (state_of V.Scale.means problem.new) }
 {
-    let mut choices = [0; 1024];
+    let mut choices = [0; CHOICE_CELLS];
     let mut report = Report::blank();
     match problem.straight_solve(values, &mut choices, &mut report) {
         Ok(()) => Reply::Told(told(problem, &report)),
@@ -80,7 +80,7 @@ pub(crate) fn solve_bounded<V: Measuring>(problem: &mut Problem<V>, values: &mut
     requires { length values.old ≡ 2304 }
     ensures { Obeyed V.Scale.rules (state_of V.Scale.means problem.old) (Call.solve bounded 2304 1024) result (state_of V.Scale.means problem.new) }
 {
-    let mut choices = [0; 1024];
+    let mut choices = [0; CHOICE_CELLS];
     let mut report = Report::blank();
     match problem.bounded_solve(values, &mut choices, &mut report) {
         Ok(()) => Reply::Told(told(problem, &report)),

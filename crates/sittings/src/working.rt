@@ -13,9 +13,9 @@ pub(crate) fn work(problem: &mut Open, request: &Request) -> Reply
 {
     match problem {
         Open::Nothing => Reply::Unknown,
-        Open::Points(points) => ask_measuring(points, &mut [Points::neutral(); 2304], request),
-        Open::Capped(capped) => ask_measuring(capped, &mut [Capped::neutral(); 2304], request),
-        Open::Ranked(ranked) => ask_measuring(ranked, &mut [Ranked::neutral(); 2304], request),
-        Open::Weakest(weakest) => ask(weakest, &mut [Weakest::neutral(); 2304], request),
+        Open::Points(points) => ask_measuring(points, &mut [Points::neutral(); VALUE_CELLS], request),
+        Open::Capped(capped) => ask_measuring(capped, &mut [Capped::neutral(); VALUE_CELLS], request),
+        Open::Ranked(ranked) => ask_measuring(ranked, &mut [Ranked::neutral(); VALUE_CELLS], request),
+        Open::Weakest(weakest) => ask(weakest, &mut [Weakest::neutral(); VALUE_CELLS], request),
     }
 }
