@@ -6,6 +6,7 @@ use crate::open::Open;
 use crate::reply::Reply;
 use crate::request::Request;
 use scale::{Capped, Points, Ranked, Scale, Weakest};
+use solving::VALUE_CELLS;
 
 // What a request makes of the problem, in its scale.
 pub(crate) fn work(problem: &mut Open, request: &Request) -> Reply
@@ -13,9 +14,21 @@ pub(crate) fn work(problem: &mut Open, request: &Request) -> Reply
 {
     match problem {
         Open::Nothing => Reply::Unknown,
-        Open::Points(points) => ask_measuring(points, &mut [Points::neutral(); VALUE_CELLS], request),
-        Open::Capped(capped) => ask_measuring(capped, &mut [Capped::neutral(); VALUE_CELLS], request),
-        Open::Ranked(ranked) => ask_measuring(ranked, &mut [Ranked::neutral(); VALUE_CELLS], request),
+        Open::Points(points) => ask_measuring(
+            points,
+            &mut [Points::neutral(); VALUE_CELLS],
+            request,
+        ),
+        Open::Capped(capped) => ask_measuring(
+            capped,
+            &mut [Capped::neutral(); VALUE_CELLS],
+            request,
+        ),
+        Open::Ranked(ranked) => ask_measuring(
+            ranked,
+            &mut [Ranked::neutral(); VALUE_CELLS],
+            request,
+        ),
         Open::Weakest(weakest) => ask(weakest, &mut [Weakest::neutral(); VALUE_CELLS], request),
     }
 }
