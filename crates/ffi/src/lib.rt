@@ -1,9 +1,11 @@
 // The engine for programs in other languages: functions on numbers and slices that read a file, write one, and solve.
 #![tactic(auto)]
 
-mod codes;
-mod filing;
 mod numbers;
+mod opening;
+mod reading;
 mod runs;
+mod telling;
+mod writing;
 
 pub use numbers::Figures;

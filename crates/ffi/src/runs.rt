@@ -1,16 +1,13 @@
 // Reading a file, and solving its problem.
 ghost use Rattle.std.specs.Prelude.{◌≡◌, ◌*◌, ◌≤◌, length};
 
-use crate::codes::{Kind, kind_of};
-use crate::filing::{OTHER_CODE, told};
 use crate::numbers::{Figures, figures_of};
+use crate::telling::told;
 use engine::Problem;
+use inspection::Kind;
 use layout::ProblemFault;
 use scale::{Capped, Measuring, Points, Ranked, Scale, Weakest};
-use solving::Report;
-
-// How many cells the value store has.
-const VALUES: usize = 2304;
+use solving::{Report, VALUE_CELLS};
 
 // The number of a problem's refusal, at place 0.
 fn refused(fault: ProblemFault) -> u64 {
@@ -113,7 +110,7 @@ fn solve_points(
 ) -> u64
     requires { 4608 ≤ length shown.old }
 {
-    let mut values = [Points::neutral(); VALUES];
+    let mut values = [Points::neutral(); VALUE_CELLS];
     bounded(bytes, times, &mut values, choices, shown, place)
 }
 
@@ -126,7 +123,7 @@ fn solve_capped(
 ) -> u64
     requires { 4608 ≤ length shown.old }
 {
-    let mut values = [Capped::neutral(); VALUES];
+    let mut values = [Capped::neutral(); VALUE_CELLS];
     bounded(bytes, times, &mut values, choices, shown, place)
 }
 
@@ -139,7 +136,7 @@ fn solve_ranked(
 ) -> u64
     requires { 4608 ≤ length shown.old }
 {
-    let mut values = [Ranked::neutral(); VALUES];
+    let mut values = [Ranked::neutral(); VALUE_CELLS];
     bounded(bytes, times, &mut values, choices, shown, place)
 }
 
@@ -152,7 +149,7 @@ fn solve_weakest(
 ) -> u64
     requires { 4608 ≤ length shown.old }
 {
-    let mut values = [Weakest::neutral(); VALUES];
+    let mut values = [Weakest::neutral(); VALUE_CELLS];
     straight(bytes, times, &mut values, choices, shown, place)
 }
 
@@ -169,11 +166,11 @@ pub extern "C" fn engine_solve(
 ) -> u64
     requires { 4608 ≤ length shown.old }
 {
-    match kind_of(code) {
-        Some(Kind::Points) => solve_points(bytes, times, choices, shown, place),
-        Some(Kind::Capped) => solve_capped(bytes, times, choices, shown, place),
-        Some(Kind::Ranked) => solve_ranked(bytes, times, choices, shown, place),
-        Some(Kind::Weakest) => solve_weakest(bytes, times, choices, shown, place),
-        None => OTHER_CODE,
+    match Kind::try_from(code) {
+        Ok(Kind::Points) => solve_points(bytes, times, choices, shown, place),
+        Ok(Kind::Capped) => solve_capped(bytes, times, choices, shown, place),
+        Ok(Kind::Ranked) => solve_ranked(bytes, times, choices, shown, place),
+        Ok(Kind::Weakest) => solve_weakest(bytes, times, choices, shown, place),
+        Err(fault) => told(fault),
     }
 }

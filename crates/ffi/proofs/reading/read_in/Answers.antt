@@ -1,0 +1,6 @@
+use Rattle.std.proofs.Common.{inr}
+use Rattle.file.specs.Numbers.{refusal}
+use Rattle.ffi.proofs.reading.read_in.Goals as goal
+
+pub returns-in-Err-clause-many : goal.returns-in-Err-clause-many
+returns-in-Err-clause-many g c = λ some. inr ((refusal c.in-Err.fault, c.in-Err.ensures.many some, c.told.ensures.coded, c.told.ensures.above), tt)
