@@ -14,7 +14,7 @@ fn front(rt: &HostRuntime, path: &str) -> io::Result<Vec<u8>> {
 }
 
 // Replaces the problem by that of a file.
-pub fn read(rt: &HostRuntime, sitting: &mut Sitting, path: &str) -> Reply {
+pub(crate) fn read(rt: &HostRuntime, sitting: &mut Sitting, path: &str) -> Reply {
     match front(rt, path) {
         Ok(bytes) => sitting.read(bytes.as_slice()),
         Err(_) => Reply::NoFile,
@@ -22,7 +22,7 @@ pub fn read(rt: &HostRuntime, sitting: &mut Sitting, path: &str) -> Reply {
 }
 
 // Writes the problem into a file.
-pub fn write(rt: &HostRuntime, sitting: &Sitting, path: &str) -> Reply {
+pub(crate) fn write(rt: &HostRuntime, sitting: &Sitting, path: &str) -> Reply {
     let mut out = [0; 16_784];
     let reply = sitting.write(&mut out);
     let Reply::FileWritten(length) = reply else {
