@@ -1,5 +1,5 @@
 -- No refusal has the number 0. Assumes nothing.
-use Rattle.std.proofs.Common.{ℕ, ◌≤◌, lit≤}
+use Rattle.std.proofs.Common.{◌≤◌, lit≤}
 use Rattle.scale.specs.Numbers.{scale_number}
 use Rattle.scale.specs.declared.fault.ScaleFault.{ScaleFault}
 use Rattle.scale.specs.declared.fault.ScaleFault.TheVariants.{NoEntry}

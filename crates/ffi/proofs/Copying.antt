@@ -1,5 +1,5 @@
 -- What is written of a file that was read is that file. Assumes nothing.
-use Rattle.std.proofs.Common.{◌≡◌, ℕ, ◌<◌, ◌≤◌, List, ◌++◌, length, take, drop, Ok, Err, Result, sym, ap, ap₂, ◌∙◌, subst, inl, inr, arith}
+use Rattle.std.proofs.Common.{◌≡◌, ℕ, ◌<◌, List, ◌++◌, length, drop, Ok, Err, Result, sym, ap, ap₂, ◌∙◌, subst, inl, inr, arith}
 use Rattle.std.proofs.lemmas.List.{take-append-drop}
 use Rattle.scale.specs.Rules.{Rules}
 use Rattle.theory.specs.Problem.{Problem}
@@ -45,9 +45,10 @@ module _ {E : Type 0} {R : Rules E} {bs : List ℕ} {P : Problem} (read : ReadAs
 pub copy_answered : {E : Type 0} (R : Rules E) (bs before after : List ℕ) (P : Problem) (r : Result ℕ FileFault) → NoneFits (file_tests R bs) → ReadAs R bs P →
     Answered refusal (write_tests P before) (λ n. (n ≡ file_size P) × WrittenAs R P before after) r →
     Answered refusal (copy_tests R bs before) (λ n. (n ≡ length bs) × (n < 65536) × Copied bs before after) r
-copy_answered R bs before after P (Ok n) none read (room, (size, w)) =
-    (none_both (file_tests R bs) _ none ((λ short. room.0 (subst (λ (n : ℕ). length before < n) read.spelled.long short)), tt),
-    (size ∙ sym read.spelled.long, subst (λ (k : ℕ). k < 65536) (sym size) (short_file read), copied read w))
+copy_answered R bs before after P (Ok n) none read (room, (size, w)) = (
+  none_both (file_tests R bs) _ none ((λ short. room.0 (subst (λ (n : ℕ). length before < n) read.spelled.long short)), tt),
+  (size ∙ sym read.spelled.long, subst (λ (k : ℕ). k < 65536) (sym size) (short_file read), copied read w),
+)
 copy_answered R bs before after P (Err f) none read (inl here) =
     first_after (file_tests R bs) _ (refusal f) none (inl (subst (λ (n : ℕ). length before < n) (sym read.spelled.long) here.0, here.1))
 copy_answered R bs before after P (Err f) none read (inr later) = absurd later.1

@@ -1,5 +1,6 @@
 // The figures of a report as plain numbers.
-ghost use Rattle.std.specs.Prelude.{◌≡◌};
+ghost use Rattle.solving.specs.Report.{figures_of};
+ghost use Rattle.ffi.specs.Reports.{Tells};
 
 use forest::Links;
 use scale::Scale;
@@ -36,9 +37,8 @@ fn word_from(links: &Links, first: usize) -> u64 {
 }
 
 // The figures of a report.
-pub(crate) fn figures_of<V: Scale>(report: &Report<V>) -> Figures
-    ensures plan { result.plan ≡ report.now.plan }
-    ensures numbers { (result.kept_count ≡ report.now.kept_count) × (result.share ≡ report.now.share) }
+pub(crate) fn shown_figures<V: Scale>(report: &Report<V>) -> Figures
+    ensures { Tells V.Scale.rules (figures_of V.Scale.means report.now) result }
 {
     let (tree_first, tree_second) = report.tree.show();
     let (score_first, score_second) = report.score.show();

@@ -1,105 +1,20 @@
-// Reading a file, and solving its problem.
-ghost use Rattle.std.specs.Prelude.{◌≡◌, ◌*◌, ◌≤◌, length};
+// Solving the problem of a file in the scale that a code names.
+ghost use Rattle.std.specs.Prelude.{◌≡◌, ◌*◌, ◌^◌, ◌≤◌, length};
+ghost use Rattle.scale.specs.Levels.{capped, weakest};
+ghost use Rattle.scale.specs.Points.{points};
+ghost use Rattle.scale.specs.Ranks.{ranked};
+ghost use Rattle.theory.specs.KeptBy.{straight, bounded};
+ghost use Rattle.inspection.specs.Describing.{NoScale};
+ghost use Rattle.ffi.specs.Answers.{Told};
+ghost use Rattle.ffi.specs.Reports.{run_tests, Shows};
 
-use crate::numbers::{Figures, figures_of};
+use crate::bounded_runs::run_bounded;
+use crate::numbers::Figures;
+use crate::straight_runs::run_straight;
 use crate::telling::told;
-use engine::Problem;
 use inspection::Kind;
-use layout::ProblemFault;
-use scale::{Capped, Measuring, Points, Ranked, Scale, Weakest};
-use solving::{Report, VALUE_CELLS};
-
-// The number of a problem's refusal, at place 0.
-fn refused(fault: ProblemFault) -> u64 {
-    u64::from(fault.number()) << 32
-}
-
-// What each cell of the value store shows.
-fn show_values<V: Scale>(values: &[V], shown: &mut [i32])
-    requires { 2 * length values.now ≤ length shown.old }
-{
-    for (pair, value) in shown.chunks_exact_mut(2).zip(values) {
-        let (first, second) = value.show();
-        pair[0] = first;
-        pair[1] = second;
-    }
-}
-
-// Solves the same problem so many times over, bounded.
-fn bounded_again<V: Measuring>(
-    problem: &mut Problem<V>,
-    times: u32,
-    values: &mut [V],
-    choices: &mut [u16],
-) -> Result<Report<V>, ProblemFault> {
-    let mut report = Report::blank();
-    for _ in 0..times {
-        problem.bounded_solve(values, choices, &mut report)?;
-    }
-    Ok(report)
-}
-
-// Solves the same problem so many times over, straight.
-fn straight_again<V: Scale>(
-    problem: &mut Problem<V>,
-    times: u32,
-    values: &mut [V],
-    choices: &mut [u16],
-) -> Result<Report<V>, ProblemFault> {
-    let mut report = Report::blank();
-    for _ in 0..times {
-        problem.straight_solve(values, choices, &mut report)?;
-    }
-    Ok(report)
-}
-
-fn bounded<V: Measuring>(
-    bytes: &[u8],
-    times: u32,
-    values: &mut [V],
-    choices: &mut [u16],
-    shown: &mut [i32],
-    place: &mut Figures,
-) -> u64
-    requires { 2 * length values.old ≤ length shown.old }
-{
-    let mut problem = Problem::<V>::open();
-    if let Err(fault) = problem.read(bytes) {
-        return told(fault);
-    }
-    match bounded_again(&mut problem, times, values, choices) {
-        Ok(report) => {
-            *place = figures_of(&report);
-            show_values(values, shown);
-            0
-        }
-        Err(fault) => refused(fault),
-    }
-}
-
-fn straight<V: Scale>(
-    bytes: &[u8],
-    times: u32,
-    values: &mut [V],
-    choices: &mut [u16],
-    shown: &mut [i32],
-    place: &mut Figures,
-) -> u64
-    requires { 2 * length values.old ≤ length shown.old }
-{
-    let mut problem = Problem::<V>::open();
-    if let Err(fault) = problem.read(bytes) {
-        return told(fault);
-    }
-    match straight_again(&mut problem, times, values, choices) {
-        Ok(report) => {
-            *place = figures_of(&report);
-            show_values(values, shown);
-            0
-        }
-        Err(fault) => refused(fault),
-    }
-}
+use scale::{Capped, Points, Ranked, Scale, Weakest};
+use solving::VALUE_CELLS;
 
 fn solve_points(
     bytes: &[u8],
@@ -109,9 +24,10 @@ fn solve_points(
     place: &mut Figures,
 ) -> u64
     requires { 4608 ≤ length shown.old }
+    ensures { 1 ≤ times → Told (run_tests points bounded bytes.now (length choices.old)) result ((result ≡ 0) × Shows points bounded bytes.now place.new choices.new) (place.new ≡ place.old) }
 {
     let mut values = [Points::neutral(); VALUE_CELLS];
-    bounded(bytes, times, &mut values, choices, shown, place)
+    run_bounded(bytes, times, &mut values, choices, shown, place)
 }
 
 fn solve_capped(
@@ -122,9 +38,10 @@ fn solve_capped(
     place: &mut Figures,
 ) -> u64
     requires { 4608 ≤ length shown.old }
+    ensures { 1 ≤ times → Told (run_tests capped bounded bytes.now (length choices.old)) result ((result ≡ 0) × Shows capped bounded bytes.now place.new choices.new) (place.new ≡ place.old) }
 {
     let mut values = [Capped::neutral(); VALUE_CELLS];
-    bounded(bytes, times, &mut values, choices, shown, place)
+    run_bounded(bytes, times, &mut values, choices, shown, place)
 }
 
 fn solve_ranked(
@@ -135,9 +52,10 @@ fn solve_ranked(
     place: &mut Figures,
 ) -> u64
     requires { 4608 ≤ length shown.old }
+    ensures { 1 ≤ times → Told (run_tests ranked bounded bytes.now (length choices.old)) result ((result ≡ 0) × Shows ranked bounded bytes.now place.new choices.new) (place.new ≡ place.old) }
 {
     let mut values = [Ranked::neutral(); VALUE_CELLS];
-    bounded(bytes, times, &mut values, choices, shown, place)
+    run_bounded(bytes, times, &mut values, choices, shown, place)
 }
 
 fn solve_weakest(
@@ -148,9 +66,10 @@ fn solve_weakest(
     place: &mut Figures,
 ) -> u64
     requires { 4608 ≤ length shown.old }
+    ensures { 1 ≤ times → Told (run_tests weakest straight bytes.now (length choices.old)) result ((result ≡ 0) × Shows weakest straight bytes.now place.new choices.new) (place.new ≡ place.old) }
 {
     let mut values = [Weakest::neutral(); VALUE_CELLS];
-    straight(bytes, times, &mut values, choices, shown, place)
+    run_straight(bytes, times, &mut values, choices, shown, place)
 }
 
 // Reads a file in the scale of this code and solves its problem `times` times over: straight for code 4, bounded for the others. The choice
@@ -165,6 +84,11 @@ pub extern "C" fn engine_solve(
     place: &mut Figures,
 ) -> u64
     requires { 4608 ≤ length shown.old }
+    ensures points { code ≡ 1 → 1 ≤ times → Told (run_tests points bounded bytes.now (length choices.old)) result ((result ≡ 0) × Shows points bounded bytes.now place.new choices.new) (place.new ≡ place.old) }
+    ensures capped { code ≡ 2 → 1 ≤ times → Told (run_tests capped bounded bytes.now (length choices.old)) result ((result ≡ 0) × Shows capped bounded bytes.now place.new choices.new) (place.new ≡ place.old) }
+    ensures ranked { code ≡ 3 → 1 ≤ times → Told (run_tests ranked bounded bytes.now (length choices.old)) result ((result ≡ 0) × Shows ranked bounded bytes.now place.new choices.new) (place.new ≡ place.old) }
+    ensures weakest { code ≡ 4 → 1 ≤ times → Told (run_tests weakest straight bytes.now (length choices.old)) result ((result ≡ 0) × Shows weakest straight bytes.now place.new choices.new) (place.new ≡ place.old) }
+    ensures other { NoScale code → (result ≡ 19 * 2 ^ 32) × (place.new ≡ place.old) × (choices.new ≡ choices.old) × (shown.new ≡ shown.old) }
 {
     match Kind::try_from(code) {
         Ok(Kind::Points) => solve_points(bytes, times, choices, shown, place),

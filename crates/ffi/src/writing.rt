@@ -21,7 +21,11 @@ use inspection::Kind;
 use scale::{Capped, Points, Ranked, Scale, Weakest};
 
 // Writes a problem so many times over.
-fn write_again<V: Scale>(problem: &Problem<V>, times: u32, out: &mut [u8]) -> Result<usize, FileFault>
+fn write_again<V: Scale>(
+    problem: &Problem<V>,
+    times: u32,
+    out: &mut [u8],
+) -> Result<usize, FileFault>
     ensures many { 1 ≤ times → Answered refusal (write_tests (state_of V.Scale.means problem.now).problem out.old) (λ n. (n ≡ file_size (state_of V.Scale.means problem.now).problem) × WrittenAs V.Scale.rules (state_of V.Scale.means problem.now).problem out.old out.new) result }
     ensures never { times ≡ 0 → (result ≡ Ok 0) × (out.new ≡ out.old) }
     ensures declined { Untouched result out.old out.new }
