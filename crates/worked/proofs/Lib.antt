@@ -5,3 +5,4 @@ pub mod PairKept
 pub mod PairFigures
 pub mod Tied
 pub mod Chained
+pub mod Calling

@@ -10,7 +10,7 @@ use Rattle.theory.specs.Cut.{Weighs}
 use Rattle.theory.specs.Kept.{kept_at}
 use Rattle.theory.specs.KeptBy.{Rule, straight, bounded}
 use Rattle.theory.specs.Bounded.{Bounded}
-use Rattle.rules.specs.Figures.{Figures, Stores}
+use Rattle.rules.specs.Figures.{Figures, Stores, share_of}
 use Rattle.rules.specs.Report.{Solved}
 
 -- capped 600 joined with 700 is 1,000
@@ -72,6 +72,13 @@ pub record PairFigures (figures : Figures ℤ) : Type 0 where
 
 abbrev pub PairReport : Type 0
 PairReport = (figures : Figures ℤ) (stores : Stores ℤ) → Solved points pair bounded figures stores → PairFigures figures
+
+-- The share is 0 where the score or the ceiling is not above 0.
+pub record ShareNone : Type 0 where
+  pub no_ceiling : share_of (pos 5) (pos 0) ≡ 0
+  pub ceiling_below : share_of (pos 5) (negsuc 0) ≡ 0
+  pub no_score : share_of (pos 0) (pos 5) ≡ 0
+  pub score_below : share_of (negsuc 4) (pos 5) ≡ 0
 
 -- A tie, in points: one function of two variables of size 2. The root takes its lowest value, and the other variable the value that goes with it.
 abbrev pub tie : Problem

@@ -2,7 +2,8 @@
 #![tactic(auto)]
 
 ghost use Rattle.std.specs.Prelude.{◌≡◌};
-ghost use Rattle.worked.specs.Table.{CappedJoin, CappedGap, RankedOrder, RankedGap, PointsEntry, PointsNone, IndexOfTwo, PairWeights, PairKept, PairReport, TieReport, ChainStraight, ChainReport};
+ghost use Rattle.worked.specs.Calls.{FirstAnswers, CallsBuild};
+ghost use Rattle.worked.specs.Table.{CappedJoin, CappedGap, RankedOrder, RankedGap, PointsEntry, PointsNone, IndexOfTwo, PairWeights, PairKept, ShareNone, PairReport, TieReport, ChainStraight, ChainReport};
 
 // The lines of the table that speak of the pair.
 fn pair_examples() -> u8
@@ -31,6 +32,15 @@ fn forest_examples() -> u8
     3
 }
 
+// The lines that speak of calls.
+fn called() -> u8
+    ensures count { result ≡ 2 }
+    ensures first { FirstAnswers }
+    ensures build { CallsBuild }
+{
+    2
+}
+
 // How many examples the table has. Each line of it is a clause.
 pub fn worked_examples() -> u8
     ensures count { result ≡ 9 }
@@ -56,4 +66,14 @@ pub fn report_examples() -> u8
     ensures chain_report { ChainReport }
 {
     pair_reported() + forest_examples()
+}
+
+// How many examples speak of calls, and of the share that they tell.
+pub fn call_examples() -> u8
+    ensures count { result ≡ 3 }
+    ensures first { FirstAnswers }
+    ensures build { CallsBuild }
+    ensures share_none { ShareNone }
+{
+    1 + called()
 }
