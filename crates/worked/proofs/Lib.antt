@@ -6,3 +6,5 @@ pub mod PairFigures
 pub mod Tied
 pub mod Chained
 pub mod Calling
+pub mod Limiting
+pub mod Lawful

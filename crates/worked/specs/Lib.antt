@@ -1,2 +1,4 @@
 pub mod Table
 pub mod Calls
+pub mod Limits
+pub mod Laws

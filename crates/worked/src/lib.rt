@@ -3,6 +3,8 @@
 
 ghost use Rattle.std.specs.Prelude.{◌≡◌};
 ghost use Rattle.worked.specs.Calls.{FirstAnswers, CallsBuild};
+ghost use Rattle.worked.specs.Laws.{GenerousGap, SameByValues};
+ghost use Rattle.worked.specs.Limits.{Limits, NotWithin};
 ghost use Rattle.worked.specs.Table.{CappedJoin, CappedGap, RankedOrder, RankedGap, PointsEntry, PointsNone, IndexOfTwo, PairWeights, PairKept, ShareNone, PairReport, TieReport, ChainStraight, ChainReport};
 
 // The lines of the table that speak of the pair.
@@ -76,4 +78,33 @@ pub fn call_examples() -> u8
     ensures share_none { ShareNone }
 {
     1 + called()
+}
+
+// The examples that tell where calls begin to be declined, and which problems pass the sizes.
+fn limited() -> u8
+    ensures count { result ≡ 2 }
+    ensures limits { Limits }
+    ensures not_within { NotWithin }
+{
+    2
+}
+
+// The examples that tell how much a law leaves open.
+fn left_open() -> u8
+    ensures count { result ≡ 2 }
+    ensures generous_gap { GenerousGap }
+    ensures same_by_values { SameByValues }
+{
+    2
+}
+
+// How many examples speak of limits, and of how much the laws leave open.
+pub fn limit_examples() -> u8
+    ensures count { result ≡ 4 }
+    ensures limits { Limits }
+    ensures not_within { NotWithin }
+    ensures generous_gap { GenerousGap }
+    ensures same_by_values { SameByValues }
+{
+    limited() + left_open()
 }
