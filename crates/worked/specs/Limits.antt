@@ -68,9 +68,12 @@ pub record Limits : Type 0 where
   pub high_entry : DeclinedOn pair (Call.set_entry 1 3 1000001) 11
   pub lowest_entry : TakenOn pair (Call.set_entry 1 3 4293967296)
   pub low_entry : DeclinedOn pair (Call.set_entry 1 3 4293967295) 11
-  -- the last function has a last place, and each variable a last value
+  -- the last function has a last place, each variable has a last value, and a list has no value more than there are variables
   pub last_place : TakenOn pair (Call.weight 1 1)
+  pub past_places : DeclinedOn pair (Call.weight 1 2) 17
   pub last_values : TakenOn pair (Call.score (1 ∷ 1 ∷ []))
+  pub past_values : DeclinedOn pair (Call.score (1 ∷ 2 ∷ [])) 16
+  pub long_list : DeclinedOn pair (Call.score (1 ∷ 1 ∷ 0 ∷ [])) 15
   -- the stores of a solve have 2,304 and 1,024 cells, by either rule
   pub stores : (rule : Rule) → TakenOn (variables_alone 1) (Call.solve rule 2304 1024)
   pub fewer_values : (rule : Rule) → DeclinedOn (variables_alone 1) (Call.solve rule 2303 1024) 1
