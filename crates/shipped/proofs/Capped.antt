@@ -1,15 +1,15 @@
 -- The promise in capped. Assumes nothing.
-use Rattle.std.proofs.Common.{◌≡◌, ℕ, zero, suc, ◌-◌, ◌*◌, ◌≤◌, min, Bool, true, false, ◌&&◌, if◌then◌else◌, sym, refl, ap, ◌∙◌, ap₂, subst, leb-true, le-leb, arith}
+use Rattle.std.proofs.Common.{◌≡◌, ℕ, zero, suc, ◌-◌, ◌*◌, ◌<◌, ◌≤◌, min, Bool, true, false, ◌&&◌, if◌then◌else◌, sym, refl, ap, ◌∙◌, ap₂, subst, leb-true, le-leb, arith}
 use Rattle.scale.specs.Levels.{Level, level, level_leq, level_sub, capped}
 use Rattle.scale.specs.LevelLaws.{at_most, capped_laws, capped_gaps}
 use Rattle.theory.specs.Joins.{joins, when}
-use Rattle.theory.specs.Problem.{Problem, Plan, Sound, functions, entry, score}
+use Rattle.theory.specs.Problem.{Problem, Plan, Valid, Sound, functions, entry, score, score_by}
 use Rattle.theory.specs.Graphs.{set_weight}
 use Rattle.theory.specs.Links.{is_link, graph}
-use Rattle.theory.specs.Cut.{Weighs}
+use Rattle.theory.specs.Cut.{Weighs, IsCut}
 use Rattle.calls.proofs.Promised.{measuring_promised, stays_within}
 use Rattle.shipped.specs.Plain.{total_below, word_at, first_word, second_word}
-use Rattle.shipped.specs.Capped.{AreCapped, capped_of, capped_score, CappedWeight, capped_of_links, CappedPromise}
+use Rattle.shipped.specs.Capped.{AreCapped, capped_of, capped_score, CappedWeight, CappedCut, capped_of_links, CappedPromise}
 use Rattle.shipped.proofs.Levels.{are_levels, order_is, entry_is, shows}
 use Rattle.shipped.proofs.Reported.{reported, attained, most}
 
@@ -43,6 +43,18 @@ module _ (P : Problem) where
   links_are : (weight : ℕ → Level) (links : ℕ → Bool) → (set_weight capped (graph P) weight links).size ≡ capped_of_links P (λ n. (weight n).size) links
   links_are weight links = sum_is (4 * functions P) _ _ (λ n. when_is (is_link P n && links n) (weight n))
 
+  least_is : {kept : ℕ → Bool} {cut : ℕ → Plan → Level} → IsCut capped P kept cut → (f : ℕ) (y : Plan) → f < functions P → Valid P y → CappedCut P kept f y (cut f y).size
+  unfolding entry
+  least_is {cut = cut} is_cut f y k valid =
+      let lowest = is_cut f y k valid in
+      let (z, ok, is) = lowest.attained in record {
+        attained = (record { plan = z; valid = ok.0; same = ok.1 }, sym (reads_is (word_at P f z)) ∙ ap (λ (a : Level). a.size) is);
+        least = λ z. subst (λ (n : ℕ). (cut f y).size ≤ n) (reads_is (word_at P f z.plan)) (leb-true _ _ (lowest.bound z.plan (z.valid, z.same)));
+      }
+
+  cuts_are : (cut : ℕ → Plan → Level) (y : Plan) → (score_by capped P cut y).size ≡ min 1000 (total_below (functions P) (λ f. (cut f y).size))
+  cuts_are cut y = sum_is (functions P) _ _ (λ f. refl)
+
   weight_is : Sound P → (f p : ℕ) (w : Level) → Weighs capped P f p w → CappedWeight P f p w.size
   unfolding entry
   weight_is sound f p w g =
@@ -65,6 +77,10 @@ capped_promised start calls state begins runs standing is =
       reached = λ e. ap (λ (a : Level). a.size) (s.reached e);
       kept = g.plainly.kept;
       kept_told = g.plainly.kept_told;
+      cut = λ f y. (g.plainly.cut f y).size;
+      cut_is = least_is P g.plainly.is_cut;
+      at_most_tree = λ y valid. subst (λ (n : ℕ). n ≤ standing.figures.tree.size) (cuts_are P g.plainly.cut y) (leb-true _ _ (g.plainly.at_most_tree y valid));
+      reaches_tree = sym (cuts_are P g.plainly.cut _) ∙ ap (λ (a : Level). a.size) g.plainly.reaches_tree;
       weight = λ n. (g.weight n).size;
       weights = λ f p k place. weight_is P sound f p _ (g.weights f p k place);
       removed_clear = g.removed_clear;

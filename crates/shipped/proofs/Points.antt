@@ -1,17 +1,17 @@
 -- The promise in points. Assumes nothing.
-use Rattle.std.proofs.Common.{◌≡◌, ℕ, zero, suc, ◌*◌, Bool, true, false, ◌&&◌, if◌then◌else◌, ℤ, pos, ◌+ℤ◌, ◌-ℤ◌, ◌≤ℤ◌, int_le, sym, refl, ap, ◌∙◌, ap₂, subst, arith}
+use Rattle.std.proofs.Common.{◌≡◌, ℕ, zero, suc, ◌*◌, ◌<◌, Bool, true, false, ◌&&◌, if◌then◌else◌, ℤ, pos, ◌+ℤ◌, ◌-ℤ◌, ◌≤ℤ◌, int_le, sym, refl, ap, ◌∙◌, ap₂, subst, arith}
 use Rattle.std.proofs.lemmas.Int.{ints}
 use Rattle.scale.specs.Points.{points}
 use Rattle.scale.specs.Whole.{whole_laws, whole_gaps}
 use Rattle.theory.specs.Joins.{joins, when}
-use Rattle.theory.specs.Problem.{Problem, Plan, Sound, functions, entry, score}
+use Rattle.theory.specs.Problem.{Problem, Plan, Valid, Sound, functions, entry, score}
 use Rattle.theory.specs.Graphs.{set_weight}
 use Rattle.theory.specs.Links.{is_link, graph}
-use Rattle.theory.specs.Cut.{Weighs}
+use Rattle.theory.specs.Cut.{Weighs, IsCut}
 use Rattle.theory.proofs.Joins.{joins_cong}
 use Rattle.calls.proofs.Promised.{measuring_promised, stays_within}
 use Rattle.shipped.specs.Plain.{sum_below, word_at}
-use Rattle.shipped.specs.Points.{AreWhole, points_of, points_score, PointsWeight, points_of_links, PointsPromise}
+use Rattle.shipped.specs.Points.{AreWhole, points_of, points_score, PointsWeight, PointsCut, points_of_links, PointsPromise}
 use Rattle.shipped.proofs.Reported.{reported, attained, most}
 use Rattle.shipped.proofs.Words.{signed_32_is}
 
@@ -47,6 +47,14 @@ module _ (P : Problem) where
   links_are : (weight : ℕ → ℤ) (links : ℕ → Bool) → set_weight points (graph P) weight links ≡ points_of_links P weight links
   links_are weight links = joins_cong points (4 * functions P) (λ n k. when_is (is_link P n && links n) (weight n)) ∙ sum_is (4 * functions P) _
 
+  least_is : {kept : ℕ → Bool} {cut : ℕ → Plan → ℤ} → IsCut points P kept cut → (f : ℕ) (y : Plan) → f < functions P → Valid P y → PointsCut P kept f y (cut f y)
+  least_is {cut = cut} is_cut f y k valid =
+      let lowest = is_cut f y k valid in
+      let (z, ok, is) = lowest.attained in record {
+        attained = (record { plan = z; valid = ok.0; same = ok.1 }, sym (entry_is f z) ∙ is);
+        least = λ z. subst (λ (n : ℤ). cut f y ≤ℤ n) (entry_is f z.plan) (at_most _ _ (lowest.bound z.plan (z.valid, z.same)));
+      }
+
 pub points_promised : PointsPromise points
 points_promised start calls state begins runs standing is =
     let g = measuring_promised points whole_laws whole_gaps start calls state begins runs standing is in
@@ -61,6 +69,10 @@ points_promised start calls state begins runs standing is =
       reached = s.reached;
       kept = g.plainly.kept;
       kept_told = g.plainly.kept_told;
+      cut = g.plainly.cut;
+      cut_is = least_is P g.plainly.is_cut;
+      at_most_tree = λ y valid. subst (λ (z : ℤ). z ≤ℤ standing.figures.tree) (sum_is (functions P) _) (at_most _ _ (g.plainly.at_most_tree y valid));
+      reaches_tree = sym (sum_is (functions P) _) ∙ g.plainly.reaches_tree;
       weight = g.weight;
       weights = λ f p k place. weight_is P sound f p _ (g.weights f p k place);
       removed_clear = g.removed_clear;

@@ -1,17 +1,17 @@
 -- The promise in ranked. Assumes nothing.
-use Rattle.std.proofs.Common.{◌≡◌, ℕ, zero, suc, ◌*◌, ◌/◌, ◌%◌, Bool, true, false, ◌&&◌, if◌then◌else◌, ℤ, pos, ◌+ℤ◌, sym, refl, ap, ◌∙◌, ap₂, subst, arith}
+use Rattle.std.proofs.Common.{◌≡◌, ℕ, zero, suc, ◌*◌, ◌/◌, ◌%◌, ◌<◌, Bool, true, false, ◌&&◌, if◌then◌else◌, ℤ, pos, ◌+ℤ◌, sym, refl, ap, ◌∙◌, ap₂, subst, arith}
 use Rattle.std.proofs.lemmas.Int.{ints}
 use Rattle.scale.specs.Ranks.{rank_leq, ranked}
 use Rattle.scale.specs.RankLaws.{rank_laws, rank_gaps}
 use Rattle.theory.specs.Joins.{joins, when}
-use Rattle.theory.specs.Problem.{Problem, Plan, Sound, functions, entry, score}
+use Rattle.theory.specs.Problem.{Problem, Plan, Valid, Sound, functions, entry, score}
 use Rattle.theory.specs.Graphs.{set_weight}
 use Rattle.theory.specs.Links.{is_link, graph}
-use Rattle.theory.specs.Cut.{Weighs}
+use Rattle.theory.specs.Cut.{Weighs, IsCut}
 use Rattle.theory.proofs.Joins.{joins_cong}
 use Rattle.calls.proofs.Promised.{measuring_promised, stays_within}
 use Rattle.shipped.specs.Plain.{sum_below, word_at}
-use Rattle.shipped.specs.Ranked.{AreRanked, AtMost, minus, pairs_below, ranked_of, ranked_score, RankedWeight, ranked_of_links, RankedPromise}
+use Rattle.shipped.specs.Ranked.{AreRanked, AtMost, minus, pairs_below, ranked_of, ranked_score, RankedWeight, RankedCut, ranked_of_links, RankedPromise}
 use Rattle.shipped.proofs.Reported.{reported, attained, most}
 use Rattle.shipped.proofs.Words.{signed_16_is}
 
@@ -53,6 +53,14 @@ module _ (P : Problem) where
   links_are : (weight : ℕ → ℤ × ℤ) (links : ℕ → Bool) → set_weight ranked (graph P) weight links ≡ ranked_of_links P weight links
   links_are weight links = joins_cong ranked (4 * functions P) (λ n k. when_is (is_link P n && links n) (weight n)) ∙ sum_is (4 * functions P) _
 
+  least_is : {kept : ℕ → Bool} {cut : ℕ → Plan → ℤ × ℤ} → IsCut ranked P kept cut → (f : ℕ) (y : Plan) → f < functions P → Valid P y → RankedCut P kept f y (cut f y)
+  least_is {cut = cut} is_cut f y k valid =
+      let lowest = is_cut f y k valid in
+      let (z, ok, is) = lowest.attained in record {
+        attained = (record { plan = z; valid = ok.0; same = ok.1 }, sym (entry_is f z) ∙ is);
+        least = λ z. subst (λ (a : ℤ × ℤ). AtMost (cut f y) a) (entry_is f z.plan) (at_most _ _ (lowest.bound z.plan (z.valid, z.same)));
+      }
+
   weight_is : Sound P → (f p : ℕ) (w : ℤ × ℤ) → Weighs ranked P f p w → RankedWeight P f p w
   weight_is sound f p w g =
       let (c, is) = attained ranked rank_laws minus gap_is less_mono P sound f p w g in record {
@@ -74,6 +82,10 @@ ranked_promised start calls state begins runs standing is =
       reached = s.reached;
       kept = g.plainly.kept;
       kept_told = g.plainly.kept_told;
+      cut = g.plainly.cut;
+      cut_is = least_is P g.plainly.is_cut;
+      at_most_tree = λ y valid. subst (λ (a : ℤ × ℤ). AtMost a standing.figures.tree) (sum_is (functions P) _) (at_most _ _ (g.plainly.at_most_tree y valid));
+      reaches_tree = sym (sum_is (functions P) _) ∙ g.plainly.reaches_tree;
       weight = g.weight;
       weights = λ f p k place. weight_is P sound f p _ (g.weights f p k place);
       removed_clear = g.removed_clear;

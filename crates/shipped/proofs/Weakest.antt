@@ -4,13 +4,17 @@ use Rattle.std.proofs.lemmas.Bool.{false≢true}
 use Rattle.scale.specs.Levels.{Level, level, weakest}
 use Rattle.scale.specs.LevelLaws.{at_most, weakest_laws}
 use Rattle.theory.specs.Joins.{joins}
-use Rattle.theory.specs.Problem.{Problem, Plan, functions, entry, score}
-use Rattle.theory.specs.KeptBy.{Rule, straight, bounded}
-use Rattle.rules.specs.Figures.{Figures}
+use Rattle.theory.specs.Problem.{Problem, Plan, Valid, Sound, functions, entry, score, score_by}
+use Rattle.theory.specs.KeptBy.{Rule, straight, bounded, KeptBy}
+use Rattle.theory.specs.Links.{link}
+use Rattle.theory.proofs.LinkNumbers.{link_there}
+use Rattle.theory.proofs.Straight.{cut_whole}
+use Rattle.rules.specs.Figures.{Figures, planned}
+use Rattle.rules.specs.Guarantees.{Guaranteed}
 use Rattle.calls.specs.State.{Standing, State, Call, Answer}
 use Rattle.calls.specs.Step.{Step, Runs, reported}
 use Rattle.calls.specs.Promise.{plain, AllPlain}
-use Rattle.calls.proofs.Promised.{plain_promised}
+use Rattle.calls.proofs.Promised.{plain_promised, stays_within}
 use Rattle.shipped.specs.Plain.{lowest_below, word_at}
 use Rattle.shipped.specs.Weakest.{AreWeakest, weakest_of, weakest_score, WeakestPromise}
 use Rattle.shipped.proofs.Levels.{are_levels, order_is, entry_is, shows}
@@ -28,6 +32,14 @@ reads_is word = grind arith
 score_is : (P : Problem) (y : Plan) → (score weakest P y).size ≡ weakest_score P y
 unfolding entry
 score_is P y = lowest_is (functions P) _ _ (λ f. reads_is (word_at P f y))
+
+-- where every link is kept, a plan's cut score is its score
+whole_is : (P : Problem) → Sound P → {rule : Rule} {figures : Figures Level} → rule ≡ straight → (g : Guaranteed weakest P rule figures) → (y : Plan) → Valid P y →
+    (score_by weakest P g.cut y).size ≡ weakest_score P y
+whole_is P sound only g y valid =
+    let keeps = subst (λ (r : Rule). KeptBy weakest P g.by_rule.0 g.kept r) only g.by_rule.1 in
+    ap (λ (a : Level). a.size) (cut_whole weakest P g.kept (λ f p k place. keeps.all_kept (link f p) ∙ link_there P sound f p k place) g.cut g.is_cut y valid)
+    ∙ score_is P y
 
 -- calls that every scale has leave only reports of straight solves
 Straightly : State Level → Type 0
@@ -63,11 +75,15 @@ unfolding Straightly
 weakest_promised start calls state begins ok runs standing is =
     let g = plain_promised weakest weakest_laws start calls state begins ok runs standing is in
     let s = on_any.reported weakest weakest_laws start calls state begins runs is g in
-    let P = state.problem in record {
+    let P = state.problem in
+    let only = all calls start state runs ok (unsaid start begins.unreported) standing is in
+    let whole = whole_is P (stays_within weakest start calls state begins runs).sound only g in record {
       valid = g.valid;
       scored = ap (λ (a : Level). a.size) g.scored ∙ score_is P _;
+      at_most_tree = λ y valid. subst (λ (n : ℕ). n ≤ standing.figures.tree.size) (whole y valid) (leb-true _ _ (g.at_most_tree y valid));
+      reaches_tree = sym (whole (planned standing.figures.plan) g.valid) ∙ ap (λ (a : Level). a.size) g.reaches_tree;
       at_most_ceiling = λ y valid. subst (λ (n : ℕ). n ≤ standing.figures.ceiling.size) (score_is P y) (leb-true _ _ (g.at_most_ceiling y valid));
-      reached = ap (λ (a : Level). a.size) (s.reached (all calls start state runs ok (unsaid start begins.unreported) standing is));
+      reached = ap (λ (a : Level). a.size) (s.reached only);
     }
 
 pub weakest_are : AreWeakest weakest (λ c. level c.value)

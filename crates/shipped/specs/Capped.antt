@@ -10,7 +10,7 @@ use Rattle.theory.specs.Links.{link, is_link, graph}
 use Rattle.rules.specs.Figures.{Figures, Packed, planned}
 use Rattle.calls.specs.State.{Standing, State, Call, Answer}
 use Rattle.calls.specs.Step.{Runs, Begins}
-use Rattle.shipped.specs.Plain.{total_below, word_at, Change, first_word, second_word, AreLevels}
+use Rattle.shipped.specs.Plain.{total_below, word_at, Agreeing, Change, first_word, second_word, AreLevels}
 
 -- the number that a word reads as: itself up to 1,000, and 0 above
 abbrev pub capped_of : ℕ → ℕ
@@ -44,6 +44,12 @@ module _ (P : Problem) where
     pub attained : (c : Change P f p) × (capped_of (first_word c) - capped_of (second_word c) ≡ weight)
     pub most : (c : Change P f p) → capped_of (first_word c) - capped_of (second_word c) ≤ weight
 
+  -- What the function f still gives at the plan y once the links that are not kept are removed: the least that its words read as, over the valid
+  -- plans that agree with y where its links are kept.
+  pub record CappedCut (kept : ℕ → Bool) (f : ℕ) (y : Plan) (value : ℕ) : Type 0 where
+    pub attained : (z : Agreeing P kept f y) × (capped_of (word_at P f z.plan) ≡ value)
+    pub least : (z : Agreeing P kept f y) → value ≤ capped_of (word_at P f z.plan)
+
   -- the weights of the links of a set, added, up to 1,000
   abbrev pub capped_of_links : (ℕ → ℕ) → (ℕ → Bool) → ℕ
   capped_of_links weight links = min 1000 (total_below (4 * functions P) (λ n. if is_link P n && links n then weight n else 0))
@@ -60,9 +66,16 @@ module _ (P : Problem) where
     pub ceiling_is : figures.ceiling.size ≡ min 1000 (figures.tree.size + figures.removed.size)
     -- in a straight solve, which removes no link, our plan's score is the ceiling, so that no plan has a higher one
     pub reached : rule ≡ straight → figures.score.size ≡ figures.ceiling.size
-    -- the kept links, as the four words of the report tell them, and each link's weight
+    -- the kept links, as the four words of the report tell them
     pub kept : ℕ → Bool
     pub kept_told : Packed kept figures.kept
+    -- What each function still gives at a plan once the other links are removed. A plan's cut score is these, added, up to 1,000: no plan's passes the
+    -- tree value, and that of ours is the tree value.
+    pub cut : ℕ → Plan → ℕ
+    pub cut_is : (f : ℕ) (y : Plan) → f < functions P → Valid P y → CappedCut kept f y (cut f y)
+    pub at_most_tree : (y : Plan) → Valid P y → min 1000 (total_below (functions P) (λ f. cut f y)) ≤ figures.tree.size
+    pub reaches_tree : min 1000 (total_below (functions P) (λ f. cut f (planned figures.plan))) ≡ figures.tree.size
+    -- each link's weight
     pub weight : ℕ → ℕ
     pub weights : (f p : ℕ) → f < functions P → p < arity P f → CappedWeight f p (weight (link f p))
     -- The removed links clear every cycle and weigh the removed weight, and no links that clear every cycle weigh less.

@@ -1,7 +1,8 @@
--- Sums in plain numbers, the word that a plan has in a table, and how an entry changes. Assumes nothing.
-use Rattle.std.specs.Prelude.{◌≡◌, ◌≤◌, ℕ, zero, suc, ◌+◌, ◌-◌, ◌<◌, min, ℤ, pos, negsuc, ◌+ℤ◌, if◌then◌else◌, nat_lt, slice_index}
+-- Sums in plain numbers, the word that a plan has in a table, how an entry changes, and which plans agree at the kept links. Assumes nothing.
+use Rattle.std.specs.Prelude.{◌≡◌, ◌≤◌, ℕ, zero, suc, ◌+◌, ◌-◌, ◌<◌, min, Bool, true, ℤ, pos, negsuc, ◌+ℤ◌, if◌then◌else◌, nat_lt, slice_index}
 use Rattle.scale.specs.Levels.{Level}
-use Rattle.theory.specs.Problem.{Problem, Plan, Valid, put, size, at, function, position}
+use Rattle.theory.specs.Problem.{Problem, Plan, Valid, put, size, at, arity, function, position}
+use Rattle.theory.specs.Links.{link}
 
 -- t 0 + t 1 + .. + t (n - 1), of whole numbers
 unfoldable pub sum_below : ℕ → (ℕ → ℤ) → ℤ
@@ -45,6 +46,12 @@ first_word {P} {f} {p} c = word_at P f (put c.plan (at P f p) c.first)
 
 abbrev pub second_word : {P : Problem} {f p : ℕ} → Change P f p → ℕ
 second_word {P} {f} {p} c = word_at P f (put c.plan (at P f p) c.second)
+
+-- A valid plan that has the values of y at the places of the function f whose links are kept.
+pub record Agreeing (P : Problem) (kept : ℕ → Bool) (f : ℕ) (y : Plan) : Type 0 where
+  pub plan : Plan
+  pub valid : Valid P plan
+  pub same : (p : ℕ) → p < arity P f → kept (link f p) ≡ true → plan (at P f p) ≡ y (at P f p)
 
 -- The values of capped and weakest are the numbers from 0 to 1,000, each once.
 pub record AreLevels : Type 0 where

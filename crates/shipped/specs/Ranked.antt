@@ -10,7 +10,7 @@ use Rattle.theory.specs.Links.{link, is_link, graph}
 use Rattle.rules.specs.Figures.{Figures, Packed, planned}
 use Rattle.calls.specs.State.{Standing, State, Call, Answer}
 use Rattle.calls.specs.Step.{Runs, Begins}
-use Rattle.shipped.specs.Plain.{sum_below, signed_16, word_at, Change, first_word, second_word}
+use Rattle.shipped.specs.Plain.{sum_below, signed_16, word_at, Agreeing, Change, first_word, second_word}
 
 -- a is at most as high as b: its first number is lower, or the first numbers are the same and its second is not higher
 abbrev pub AtMost : ℤ × ℤ → ℤ × ℤ → Type 0
@@ -73,6 +73,12 @@ module _ (P : Problem) where
     pub attained : (c : Change P f p) × (minus (ranked_of (first_word c)) (ranked_of (second_word c)) ≡ weight)
     pub most : (c : Change P f p) → AtMost (minus (ranked_of (first_word c)) (ranked_of (second_word c))) weight
 
+  -- What the function f still gives at the plan y once the links that are not kept are removed: the least that its words read as, over the valid
+  -- plans that agree with y where its links are kept.
+  pub record RankedCut (kept : ℕ → Bool) (f : ℕ) (y : Plan) (value : ℤ × ℤ) : Type 0 where
+    pub attained : (z : Agreeing P kept f y) × (ranked_of (word_at P f z.plan) ≡ value)
+    pub least : (z : Agreeing P kept f y) → AtMost value (ranked_of (word_at P f z.plan))
+
   -- the weights of the links of a set, added
   abbrev pub ranked_of_links : (ℕ → ℤ × ℤ) → (ℕ → Bool) → ℤ × ℤ
   ranked_of_links weight links = pairs_below (4 * functions P) (λ n. if is_link P n && links n then weight n else (pos 0, pos 0))
@@ -89,9 +95,16 @@ module _ (P : Problem) where
     pub ceiling_is : figures.ceiling ≡ plus figures.tree figures.removed
     -- in a straight solve, which removes no link, our plan's score is the ceiling, so that no plan has a higher one
     pub reached : rule ≡ straight → figures.score ≡ figures.ceiling
-    -- the kept links, as the four words of the report tell them, and each link's weight
+    -- the kept links, as the four words of the report tell them
     pub kept : ℕ → Bool
     pub kept_told : Packed kept figures.kept
+    -- What each function still gives at a plan once the other links are removed. A plan's cut score is these, added: no plan's passes the
+    -- tree value, and that of ours is the tree value.
+    pub cut : ℕ → Plan → ℤ × ℤ
+    pub cut_is : (f : ℕ) (y : Plan) → f < functions P → Valid P y → RankedCut kept f y (cut f y)
+    pub at_most_tree : (y : Plan) → Valid P y → AtMost (pairs_below (functions P) (λ f. cut f y)) figures.tree
+    pub reaches_tree : pairs_below (functions P) (λ f. cut f (planned figures.plan)) ≡ figures.tree
+    -- each link's weight
     pub weight : ℕ → ℤ × ℤ
     pub weights : (f p : ℕ) → f < functions P → p < arity P f → RankedWeight f p (weight (link f p))
     -- The removed links clear every cycle and weigh the removed weight, and no links that clear every cycle weigh less.

@@ -41,6 +41,9 @@ module _ (P : Problem) where
     -- our plan gives each variable a value of its domain, and this is its score
     pub valid : Valid P (planned figures.plan)
     pub scored : figures.score.size ≡ weakest_score (planned figures.plan)
+    -- no plan's score passes the tree value, and ours is the tree value: since no link is removed, a plan's cut score is its score
+    pub at_most_tree : (y : Plan) → Valid P y → weakest_score y ≤ figures.tree.size
+    pub reaches_tree : weakest_score (planned figures.plan) ≡ figures.tree.size
     -- no plan's score passes the ceiling, and ours reaches it, so that no plan is better
     pub at_most_ceiling : (y : Plan) → Valid P y → weakest_score y ≤ figures.ceiling.size
     pub reached : figures.score.size ≡ figures.ceiling.size
