@@ -2,7 +2,9 @@ pub mod TwoByTwo
 pub mod PlanLists
 pub mod Pair
 pub mod PairKept
+pub mod EqualKept
 pub mod PairFigures
+pub mod PairCells
 pub mod Tied
 pub mod Chained
 pub mod Calling

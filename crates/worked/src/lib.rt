@@ -5,6 +5,8 @@ ghost use Rattle.std.specs.Prelude.{◌≡◌};
 ghost use Rattle.worked.specs.Calls.{FirstAnswers, CallsBuild};
 ghost use Rattle.worked.specs.Laws.{GenerousGap, SameByValues};
 ghost use Rattle.worked.specs.Limits.{Limits, NotWithin};
+ghost use Rattle.worked.specs.Cells.{PairStores};
+ghost use Rattle.worked.specs.Ties.{TakesFirst, EqualWeights};
 ghost use Rattle.worked.specs.Table.{CappedJoin, CappedGap, RankedOrder, RankedGap, PointsEntry, PointsNone, IndexOfTwo, PairWeights, PairKept, ShareNone, PairReport, TieReport, ChainStraight, ChainReport};
 
 // The lines of the table that speak of the pair.
@@ -32,6 +34,30 @@ fn forest_examples() -> u8
     ensures chain { ChainReport }
 {
     3
+}
+
+// The tie between two entries of a function.
+fn entries_tied() -> u8
+    ensures count { result ≡ 1 }
+    ensures first { TakesFirst }
+{
+    1
+}
+
+// The tie between the weights of links.
+fn weights_tied() -> u8
+    ensures count { result ≡ 1 }
+    ensures weights { EqualWeights }
+{
+    1
+}
+
+// The stores of the pair.
+fn pair_stored() -> u8
+    ensures count { result ≡ 1 }
+    ensures stores { PairStores }
+{
+    1
 }
 
 // The lines that speak of calls.
@@ -107,4 +133,21 @@ pub fn limit_examples() -> u8
     ensures same_by_values { SameByValues }
 {
     limited() + left_open()
+}
+
+// How many examples speak of ties, beside the one in the table.
+pub fn tie_examples() -> u8
+    ensures count { result ≡ 2 }
+    ensures takes_first { TakesFirst }
+    ensures equal_weights { EqualWeights }
+{
+    entries_tied() + weights_tied()
+}
+
+// How many examples speak of the cells of the stores.
+pub fn cell_examples() -> u8
+    ensures count { result ≡ 1 }
+    ensures pair_stores { PairStores }
+{
+    pair_stored()
 }
