@@ -1,6 +1,9 @@
+pub mod FunctionSet
 pub mod Marking
 pub mod Growing
+pub mod Place
 pub mod Turns
+pub mod Collecting
 pub mod Parts
 pub mod Shaped
 pub mod Ringed

@@ -1,12 +1,9 @@
-use Rattle.std.proofs.Common.{◌≡◌, subst, arith}
-use Rattle.std.proofs.lemmas.Bool.{both_ways}
+use Rattle.std.proofs.Common.{◌≡◌, unwrap_or, refl, ap, ◌∙◌, subst, arith}
 use Rattle.theory.specs.Kept.{kept_at}
 use Rattle.hanging.proofs.Marking.{marks_variable, marks_function, sound_variable, sound_function}
-use Rattle.hanging.proofs.Turns.{Links, Places, links_none, places_none, link_same, link_free, link_hung, place_same, place_had, place_free, place_hung, variable_done, function_done}
+use Rattle.hanging.proofs.Turns.{Places, functions_all, places_none, function_had, function_free, function_hung, place_same, place_had, place_free, place_hung, variable_done, function_done}
 use Rattle.hanging.proofs.hung.Hung.+hang_function_hang_variable.Goals as goal
 use Rattle.hanging.proofs.hung.Hung.+hang_function_hang_variable.Goals.{hang_function-in-Some+then-not-self-v, hang_function-in-Some+else-not-self-v, hang_function-in_default}
-use Rattle.hanging.proofs.hung.Hung.+hang_function_hang_variable.Goals.{hang_variable-then-is_none+then-leads_to, hang_variable-else-is_none}
-use Rattle.hanging.proofs.hung.Hung.+hang_function_hang_variable.Goals.{hang_variable-else-is_none-via-then-is_none+else-leads_to, hang_variable-else-is_none-via-else-is_none}
 
 pub hang_function-loop-p-init : goal.hang_function-loop-p-init
 hang_function-loop-p-init t c =
@@ -22,7 +19,7 @@ hang_function-hang_variable-requires t c =
     let inv = c.loop-p.invariant in
     let marked = marks_function l K c.requires.sound c.requires.free c.mark_function.ensures in (
       omega (arith, inv.grows.fewer, marked.fewer, c.decreases),
-      (inv.sound, place_free l K c.loop-p.p inv c.in-Some.v c.loop-p-test.true c.in-Some.ensures.0 c.in-Some.ensures.1 marked.hung c.if-not-self-v.true),
+      (c.requires.around, (inv.sound, place_free l K c.loop-p.p inv c.in-Some.v c.loop-p-test.true c.in-Some.ensures.0 c.in-Some.ensures.1 marked.hung c.if-not-self-v.true)),
     )
 
 pub hang_function-loop-p-preserved : goal.hang_function-loop-p-preserved
@@ -48,46 +45,40 @@ hang_function-returns t c =
     let m = c.mark_function.new.self in
     (m, c.mark_function.ensures, function_done l K f m c.loop-p.self (subst (λ i. Places l K f m c.loop-p.self i) end c.loop-p.invariant))
 
-pub hang_variable-loop-link-init : goal.hang_variable-loop-link-init
-hang_variable-loop-link-init t c =
+pub hang_variable-loop-f-init : goal.hang_variable-loop-f-init
+hang_variable-loop-f-init t c =
     let l = c.args.layout.now in
     let K = kept_at c.args.kept.now.words in
-    links_none l K c.args.v c.mark_variable.new.self
+    functions_all l K c.args.v c.mark_variable.new.self
     (sound_variable l K c.requires.sound c.requires.free c.mark_variable.ensures)
+    c.args.around.now c.requires.around
 
 pub hang_variable-hang_function-requires : goal.hang_variable-hang_function-requires
 hang_variable-hang_function-requires t c =
     let l = c.args.layout.now in
     let K = kept_at c.args.kept.now.words in
-    let inv = c.loop-link.invariant in
+    let inv = c.loop-f.invariant in
     let marked = marks_variable l K c.requires.sound c.requires.free c.mark_variable.ensures in
-    let leads = c.leads_to.ensures.0 c.if-leads_to.true in (
+    let found = c.unwrap_or-place.ensures ∙ ap (λ o. unwrap_or o 0) c.place_in.ensures in (
       omega (arith, inv.grows.fewer, marked.fewer, c.decreases),
-      (inv.sound, link_free l K c.loop-link.link inv leads.0 leads.1 marked.hung c.if-is_none.ensures),
+      (c.requires.around, (inv.sound, function_free l K inv c.in-Some.ensures marked.hung c.if-is_none.ensures c.unwrap_or-place.result found)),
     )
 
-pub hang_variable-loop-link-preserved : goal.hang_variable-loop-link-preserved
-hang_variable-loop-link-preserved t c =
+pub hang_variable-loop-f-preserved-then-is_none : goal.hang_variable-loop-f-preserved-then-is_none
+hang_variable-loop-f-preserved-then-is_none t c =
     let l = c.args.layout.now in
     let K = kept_at c.args.kept.now.words in
-    let inv = c.loop-link.invariant in
-    let i = c.loop-link.link in
     let marked = marks_variable l K c.requires.sound c.requires.free c.mark_variable.ensures in
-    elim c.if-is_none.branch [
-      | hang_variable-then-is_none+then-leads_to w ↦
-          let leads = w.leads_to.ensures.0 w.if-leads_to.true in
-          link_hung l K i inv leads.0 leads.1 marked.hung w.if-is_none.ensures w.self-is w.hang_function.ensures
-      | hang_variable-else-is_none w ↦ link_same l K i inv w.self-is (λ kept end. elim w.else-is_none.branch [
-        | hang_variable-else-is_none-via-then-is_none+else-leads_to x ↦ absurd (both_ways x.leads_to.result x.if-leads_to.false (x.leads_to.ensures.1 (kept, end)))
-        | hang_variable-else-is_none-via-else-is_none x ↦ x.if-is_none.ensures
-      ])
-    ]
+    let found = c.unwrap_or-place.ensures ∙ ap (λ o. unwrap_or o 0) c.place_in.ensures in
+    function_hung l K c.loop-f.invariant c.in-Some.ensures marked.hung c.if-is_none.ensures c.unwrap_or-place.result found refl c.hang_function.ensures
+
+pub hang_variable-loop-f-preserved : goal.hang_variable-loop-f-preserved
+hang_variable-loop-f-preserved t c =
+    function_had c.args.layout.now (kept_at c.args.kept.now.words) c.loop-f.invariant c.in-Some.ensures refl c.if-is_none.ensures
 
 pub hang_variable-returns : goal.hang_variable-returns
 hang_variable-returns t c =
     let l = c.args.layout.now in
     let K = kept_at c.args.kept.now.words in
-    let v = c.args.v in
-    let end : c.loop-link.link ≡ 256 = omega (arith, c.loop-link-test.false, c.loop-link.auto.link-end) in
     let m = c.mark_variable.new.self in
-    (m, c.mark_variable.ensures, variable_done l K v m c.loop-link.self (subst (λ i. Links l K v m c.loop-link.self i) end c.loop-link.invariant))
+    (m, c.mark_variable.ensures, variable_done l K c.args.v m c.loop-f.self c.loop-f.left c.loop-f.invariant c.in_default.ensures)
