@@ -5,6 +5,7 @@ use Rattle.hanging.specs.declared.function_set.FunctionSet.{FunctionSet}
 use Rattle.hanging.specs.FunctionSet.{in_set}
 use Rattle.hanging.specs.Kept.{Linked}
 
+-- the empty set
 abbrev pub no_functions : FunctionSet
 no_functions = record { word = 0 }
 

@@ -3,6 +3,7 @@ use Rattle.std.specs.Prelude.{◌≡◌, ℕ, ◌<◌, Bool, true, false, ◌==�
 use Rattle.theory.specs.Kept.{bit}
 use Rattle.hanging.specs.declared.function_set.FunctionSet.{FunctionSet}
 
+-- whether the function f is in the set
 abbrev pub in_set : FunctionSet → ℕ → Bool
 in_set s f = bit s.word f == 1
 

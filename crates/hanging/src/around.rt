@@ -1,4 +1,4 @@
-// What kept links join: the variable and the place of each, and the functions around each variable.
+// Which variable a kept link leads to, at which place of a function a variable stands, and which functions kept links join to it.
 ghost use Rattle.std.specs.Prelude.{◌≡◌, ℕ, ◌==◌, MatchOption, position};
 ghost use Rattle.theory.specs.Kept.{kept_at};
 ghost use Rattle.layout.specs.View.{scope_in};
