@@ -38,7 +38,7 @@ module _ (l : Layout) (K : ℕ → Bool) where
       let place = ltb-true (n % 4) (length (scope_in l (n / 4))) k.there in
       omega (arith, l.known (n / 4) (omega (arith, k.below)) (n % 4) place)
 
-  pub linked_small : {v f : ℕ} → Linked l K v f → f < 64
+  linked_small : {v f : ℕ} → Linked l K v f → f < 64
   linked_small k = omega (arith, kept_small k.link k.kept, k.function)
 
   -- The functions that kept links join to v are hung, except those that are left.
@@ -76,7 +76,7 @@ module _ (l : Layout) (K : ℕ → Bool) where
         (λ other. inv.linked g lt (sym (first.others g lt other) ∙ h))
         (cases_eq g f)
 
-    -- those that are left later, or hung, where f is hung and no function ceases to be
+    -- once f is hung too, each is hung or still left
     done_rest : (u : Hung) → is_some (function_at u f).parent ≡ true → ((g : ℕ) → is_some (function_at t g).parent ≡ true → is_some (function_at u g).parent ≡ true) →
         (g : ℕ) → Linked l K v g → (in_set rest g ≡ true) ⊎ (is_some (function_at u g).parent ≡ true)
     done_rest u here still g k = ⊎_elim
@@ -85,9 +85,8 @@ module _ (l : Layout) (K : ℕ → Bool) where
         (cases_eq g f)
 
     -- it is hung already
-    pub function_had : {x : Hung} → x ≡ t → is_some (function_at t f).parent ≡ true → Functions v s x rest
-    function_had is here =
-        subst (λ x. Functions v s x rest) (sym is) (record { sound = inv.sound; grows = inv.grows; linked = linked_rest; done = done_rest t here (λ g h. h) })
+    pub function_had : is_some (function_at t f).parent ≡ true → Functions v s t rest
+    function_had here = record { sound = inv.sound; grows = inv.grows; linked = linked_rest; done = done_rest t here (λ g h. h) }
 
     -- it is hung by the place p, at which v is found
     module _ (up : (variable_at s v).hung ≡ true) (free : is_some (function_at t f).parent ≡ false) (p : ℕ) (found : p ≡ unwrap_or (position (λ (w : ℕ). w == v) (scope_in l f)) 0) where
@@ -113,17 +112,17 @@ module _ (l : Layout) (K : ℕ → Bool) where
         above = subst (λ w. (variable_at t w).hung ≡ true) (sym (ap G_left link_is ∙ linked_here.variable)) (stays l K inv.grows (node.Variable v) up);
       }
 
-      pub function_hung : {x u : Hung} → x ≡ u → HangsFunction l K t f p u → Functions v s x rest
-      function_hung {x} {u} is (m, with, h) =
+      pub function_hung : {u : Hung} → HangsFunction l K t f p u → Functions v s u rest
+      function_hung {u} (m, with, h) =
           let marked = marks_function l K inv.sound function_free with in
           let child : (w : ℕ) → node.Function f ≡ node.Variable w → (variable_at m w).parent ≡ None → ⊥ = λ w e _. function_variable f w e in
           let step = grows_child l K (node.Variable v) (node.Function f) linked_here marked h child in
-          subst (λ y. Functions v s y rest) (sym is) (record {
+          record {
             sound = h.sound;
             grows = grows_then l K inv.grows step;
             linked = linked_rest;
             done = done_rest u (child_hung l K (node.Variable v) (node.Function f) linked_here marked h child) (λ g. stays l K step (node.Function g));
-          })
+          }
 
   module _ {f : ℕ} {s t : Hung} (i : ℕ) (inv : Places f s t i) where
     -- no variable is hung

@@ -1,4 +1,4 @@
-use Rattle.std.proofs.Common.{◌≡◌, unwrap_or, refl, ap, ◌∙◌, subst, arith}
+use Rattle.std.proofs.Common.{◌≡◌, unwrap_or, ap, ◌∙◌, subst, arith}
 use Rattle.theory.specs.Kept.{kept_at}
 use Rattle.hanging.proofs.Marking.{marks_variable, marks_function, sound_variable, sound_function}
 use Rattle.hanging.proofs.Turns.{Places, functions_all, places_none, function_had, function_free, function_hung, place_same, place_had, place_free, place_hung, variable_done, function_done}
@@ -70,11 +70,11 @@ hang_variable-loop-f-preserved-then-is_none t c =
     let K = kept_at c.args.kept.now.words in
     let marked = marks_variable l K c.requires.sound c.requires.free c.mark_variable.ensures in
     let found = c.unwrap_or-place.ensures ∙ ap (λ o. unwrap_or o 0) c.place_in.ensures in
-    function_hung l K c.loop-f.invariant c.in-Some.ensures marked.hung c.if-is_none.ensures c.unwrap_or-place.result found refl c.hang_function.ensures
+    function_hung l K c.loop-f.invariant c.in-Some.ensures marked.hung c.if-is_none.ensures c.unwrap_or-place.result found c.hang_function.ensures
 
 pub hang_variable-loop-f-preserved : goal.hang_variable-loop-f-preserved
 hang_variable-loop-f-preserved t c =
-    function_had c.args.layout.now (kept_at c.args.kept.now.words) c.loop-f.invariant c.in-Some.ensures refl c.if-is_none.ensures
+    function_had c.args.layout.now (kept_at c.args.kept.now.words) c.loop-f.invariant c.in-Some.ensures c.if-is_none.ensures
 
 pub hang_variable-returns : goal.hang_variable-returns
 hang_variable-returns t c =
