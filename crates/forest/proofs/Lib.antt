@@ -4,3 +4,4 @@ pub mod FactorGraphs
 pub mod Along
 pub mod Sorted
 pub mod LeftOut
+pub mod Lists

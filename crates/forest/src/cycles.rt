@@ -6,15 +6,18 @@ ghost use Rattle.forest.specs.FactorGraph.{layout_graph};
 ghost use Rattle.forest.specs.Along.{KeptByNumber};
 
 use crate::ends::is_link;
-use crate::keeping::{keep_in_order, numbers};
+use crate::keeping::keep_in_order;
 use crate::links::{LINKS, Links};
-use layout::Layout;
+use crate::listing::list_links;
+use layout::{Layout, MOST_PLACES};
 
 // The links that are kept in the order of their numbers.
 fn kept_by_number(layout: &Layout) -> Links
     ensures { KeptByNumber (layout_graph layout.now) (kept_at result.words) }
 {
-    keep_in_order(layout, &numbers::<LINKS>())
+    let mut room = [0; LINKS];
+    let count = list_links(layout, &mut room);
+    keep_in_order(layout, &room[..count])
 }
 
 // Whether these leave out some link, which then closes a cycle.
@@ -22,7 +25,7 @@ fn leaves_out(layout: &Layout, links: &Links) -> bool
     requires { KeptByNumber (layout_graph layout.now) (kept_at links.now.words) }
     ensures { Decides result (Cycle (layout_graph layout.now) every) }
 {
-    (0..LINKS).any(|link| is_link(layout, link) && !links.holds(link))
+    (0..MOST_PLACES * layout.functions()).any(|link| is_link(layout, link) && !links.holds(link))
 }
 
 // Whether the links of the layout form a cycle.

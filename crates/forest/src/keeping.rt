@@ -14,25 +14,25 @@ use std::array;
 #[derive(Clone, Copy)]
 struct Parts {
     kept: Links,
-    labels: [usize; NODES],
+    labels: [u8; NODES],
 }
 
-// Each number at its own position.
-pub(crate) fn numbers<const N: usize>() -> [usize; N]
-    ensures { (n : ℕ) → slice_index_or result n n ≡ n }
+// The labels of nodes of which each is alone: their own numbers.
+fn alone() -> [u8; NODES]
+    ensures { (a : ℕ) → label_in result a ≡ a }
 {
-    array::from_fn(|n| n)
+    array::from_fn(|node| node as u8)
 }
 
 // The label `low` in place of the label `high`.
-fn relabel(low: usize, high: usize, label: usize) -> usize
+fn relabel(low: u8, high: u8, label: u8) -> u8
     ensures { result ≡ relabel low high label }
 {
     if label == high { low } else { label }
 }
 
 // The same of each label.
-fn relabelled(mut labels: [usize; NODES], low: usize, high: usize) -> [usize; NODES]
+fn relabelled(mut labels: [u8; NODES], low: u8, high: u8) -> [u8; NODES]
     requires { high < 128 }
     ensures { (a : ℕ) → label_in result a ≡ relabel low high (label_in labels a) }
 {
@@ -45,7 +45,7 @@ fn relabelled(mut labels: [usize; NODES], low: usize, high: usize) -> [usize; NO
 
 impl Parts {
     // Keeps a link between two parts.
-    fn merge(&mut self, link: usize, low: usize, high: usize)
+    fn merge(&mut self, link: usize, low: u8, high: u8)
         requires link { link < 256 }
         requires high { high < 128 }
         ensures kept { (m : ℕ) → kept_at self.new.kept.words m ≡ (m == link || kept_at self.old.kept.words m) }
@@ -76,8 +76,7 @@ fn parts_along(layout: &Layout, order: &[usize]) -> Parts
 {
     let mut parts = Parts {
         kept: Links::none(),
-        // Each node alone.
-        labels: numbers(),
+        labels: alone(),
     };
     for link in order {
         parts.consider(layout, *link);

@@ -6,8 +6,8 @@ ghost use Rattle.forest.specs.FactorGraph.{layout_graph};
 ghost use Rattle.keeping.specs.KeptByWeight.{KeptByWeight};
 ghost use Rattle.keeping.specs.Weights.{weight_of};
 
-use crate::order::by_weight;
-use forest::{Links, keep_in_order};
+use crate::order::sort_by_weight;
+use forest::{LINKS, Links, keep_in_order, list_links};
 use layout::Layout;
 use scale::Scale;
 
@@ -17,7 +17,11 @@ mod order;
 fn kept_along<V: Scale>(layout: &Layout, weights: &[V]) -> Links
     ensures { KeptByWeight V.Scale.rules (layout_graph layout.now) (weight_of V.Scale.rules V.Scale.means weights.now) (kept_at result.words) }
 {
-    keep_in_order(layout, &by_weight(weights))
+    let mut room = [0; LINKS];
+    let count = list_links(layout, &mut room);
+    let links = &mut room[..count];
+    sort_by_weight(weights, links);
+    keep_in_order(layout, links)
 }
 
 // Considers the links from the heaviest, the lowest number first among equals, and keeps each that closes no cycle with those kept.

@@ -1,10 +1,9 @@
-use Rattle.std.proofs.Common.{arith}
+use Rattle.std.proofs.Common.{◌∙◌}
 use Rattle.theory.specs.Kept.{kept_at}
 use Rattle.theory.proofs.Orders.{before_order}
 use Rattle.theory.proofs.Kept.{kept_clears, kept_joins}
 use Rattle.theory.proofs.LeftOut.{left_out_count}
 use Rattle.theory.proofs.Weighed.{lightest_set}
-use Rattle.layout.proofs.Shapes.{few_functions}
 use Rattle.forest.specs.FactorGraph.{layout_graph}
 use Rattle.forest.proofs.FactorGraphs.{layout_whole}
 use Rattle.forest.proofs.Sorted.{kept_by_order}
@@ -23,8 +22,11 @@ returns g c =
     let whole = layout_whole l in
     let K = kept_at c.keep_in_order.result.words in
     let along = c.keep_in_order.ensures in
-    let order = c.by_weight.ensures in
-    let keeps = kept_by_order G strict _ (λ n below there. order.complete n (omega (arith, below, few_functions l))) order.ordered K along in
+    let listed = c.list_links-count.ensures.listed in
+    let order = c.sort_by_weight.ensures in
+    let keeps = kept_by_order G strict _
+    (λ n below there. let (i, low, at) = listed.complete n below there in let (j, small, same) = order.complete i low in (j, small, same ∙ at))
+    order.ordered K along in
     record {
       only = λ n e. (along.only n e).0;
       keeps = keeps;
