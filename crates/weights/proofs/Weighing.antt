@@ -123,12 +123,12 @@ module _ (P : Problem) (sound : Sound P) (f : ℕ) (known : f < functions P) (p 
 
     -- What is widest in the table is the weight.
     pub weighs : (table : List ℕ) (values stride : ℕ) (w : E) → table ≡ (function P f).words → values ≡ values_at P f p → stride ≡ stride_at P f p →
-        Widest R table values stride (length table / values) w → Weighs R P f p w
+        Widest R table values stride (base values stride) (length table / values) w → Weighs R P f p w
     weighs table values stride w t v s widest =
         let ws = (function P f).words in
         let d = values_at P f p in
-        let by-table = subst (λ (xs : List ℕ). Widest R xs values stride (length xs / values) w) t widest in
-        let by_values = subst (λ (n : ℕ). Widest R ws n stride (length ws / n) w) v by-table in
-        let here = subst (λ (n : ℕ). Widest R ws d n (length ws / d) w) s by_values in
+        let by-table = subst (λ (xs : List ℕ). Widest R xs values stride (base values stride) (length xs / values) w) t widest in
+        let by_values = subst (λ (n : ℕ). Widest R ws n stride (base n stride) (length ws / n) w) v by-table in
+        let here = subst (λ (n : ℕ). Widest R ws d n (base d n) (length ws / d) w) s by_values in
         let (k, few, swing) = here.attained in
         record { attained = from_table k w (few, swing); bound = λ g other. let (k', (few', swing')) = to_table g other in here.bound k' g few' swing' }

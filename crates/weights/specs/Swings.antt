@@ -29,7 +29,7 @@ module _ {E : Type 0} (R : Rules E) (table : List ℕ) (values stride : ℕ) whe
     pub lowest : Lowest R (λ x. x < values) (along R table stride from) low
     pub is : R.gap high low ≡ g
 
-  -- w is the highest such gap of the first n combinations
-  pub record Widest (n : ℕ) (w : E) : Type 0 where
-    pub attained : (k : ℕ) × (k < n) × SwingFrom (base values stride k) w
-    pub bound : (k : ℕ) (g : E) → k < n → SwingFrom (base values stride k) g → R.leq g w ≡ true
+  -- w is the highest gap of n lines, where the entry of value 0 of line k stands at `start k`
+  pub record Widest (start : ℕ → ℕ) (n : ℕ) (w : E) : Type 0 where
+    pub attained : (k : ℕ) × (k < n) × SwingFrom (start k) w
+    pub bound : (k : ℕ) (g : E) → k < n → SwingFrom (start k) g → R.leq g w ≡ true

@@ -25,16 +25,16 @@ impl<'a> Link<'a> {
         domains[scope[self.place] as usize] as usize
     }
 
-    // How many combinations of values the later places have: the table's length, divided by the size of each place up to this one.
+    // How many combinations of values the later places have: the product of their sizes.
     pub(crate) fn stride(self) -> usize
         ensures { result ≡ stride_at (problem_of self.entry.tables.now) self.entry.function self.entry.place }
     {
         let scope = self.tables.layout.scope(self.function);
         let domains = self.tables.layout.domains();
-        let mut rest = self.tables.table(self.function).len();
-        for variable in &scope[..=self.place] {
-            rest /= domains[*variable as usize] as usize;
+        let mut stride = 1;
+        for variable in &scope[self.place + 1..] {
+            stride *= domains[*variable as usize] as usize;
         }
-        rest
+        stride
     }
 }

@@ -2,7 +2,7 @@
 ghost use Rattle.std.specs.Prelude.{◌≡◌, ℕ, ◌+◌, ◌*◌, ◌/◌, ◌%◌, ◌<◌, ◌≤◌, length};
 ghost use Rattle.theory.specs.Cut.{Weighs};
 ghost use Rattle.tables.specs.View.{problem_of};
-ghost use Rattle.weights.specs.Swings.{values_at, stride_at, SwingFrom, Widest};
+ghost use Rattle.weights.specs.Swings.{values_at, stride_at, base, SwingFrom, Widest};
 
 use crate::link::Link;
 use scale::{Measuring, higher, lower};
@@ -38,16 +38,30 @@ impl<'a> Line<'a> {
         high.gap(low)
     }
 
-    // The widest of these gaps, over all combinations of values at the other places.
-    fn widest_swing<V: Measuring>(self) -> V
-        ensures value { Widest V.Scale.rules self.entry.table.now self.entry.values self.entry.stride (length self.entry.table.now / self.entry.values) (V.Scale.means result) }
+    // The widest gap of a block: of the lines that have the same values at the earlier places. The first entry of the block stands at `from`.
+    fn widest_of_block<V: Measuring>(self, from: usize) -> V
+        requires { from + self.values * self.stride ≤ length self.table.now }
+        ensures value { Widest V.Scale.rules self.entry.table.now self.entry.values self.entry.stride (λ later. from + later) self.entry.stride (V.Scale.means result) }
         ensures within { V.Scale.within 2 result }
     {
-        let mut widest = self.swing::<V>(0);
-        // By number: it stands for the values at the other places.
-        for others in 1..self.table.len() / self.values {
-            let from = others / self.stride * self.values * self.stride + others % self.stride;
-            widest = higher(widest, self.swing::<V>(from));
+        let mut widest = self.swing::<V>(from);
+        for later in 1..self.stride {
+            widest = higher(widest, self.swing::<V>(from + later));
+        }
+        widest
+    }
+
+    // The widest gap of all lines.
+    fn widest_swing<V: Measuring>(self) -> V
+        ensures value { Widest V.Scale.rules self.entry.table.now self.entry.values self.entry.stride (base self.entry.values self.entry.stride) (length self.entry.table.now / self.entry.values) (V.Scale.means result) }
+        ensures within { V.Scale.within 2 result }
+    {
+        let mut widest = self.widest_of_block::<V>(0);
+        let block = self.values * self.stride;
+        let mut from = block;
+        while from < self.table.len() {
+            widest = higher(widest, self.widest_of_block::<V>(from));
+            from += block;
         }
         widest
     }

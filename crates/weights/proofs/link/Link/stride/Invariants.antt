@@ -1,7 +1,10 @@
-use Rattle.std.proofs.Common.{◌≡◌}
+use Rattle.std.proofs.Common.{◌≡◌, ◌+◌, ◌*◌}
 use Rattle.tables.specs.View.{problem_of}
+use Rattle.weights.specs.Swings.{stride_at}
 use Rattle.weights.proofs.Strides.{from_place}
 use Rattle.weights.proofs.link.Link.stride.Given as goal
 
 abbrev pub invariant-loop-variable : goal.invariant-loop-variable
-invariant-loop-variable l = l.rest ≡ from_place (problem_of l.self.tables.now) l.self.function l.variable-index
+invariant-loop-variable l =
+    let P = problem_of l.self.tables.now in
+    l.stride * from_place P l.self.function (l.self.place + 1 + l.variable-index) ≡ stride_at P l.self.function l.self.place

@@ -27,8 +27,8 @@ loop-x-init g c =
     let start : c.args.from + 0 * l.stride ≡ c.args.from = omega arith in
     let is : entry 0 ≡ v.means high = ap (λ (i : ℕ). v.rules.reads (get_or l.table.now i 0)) start ∙ sym c.value_of-high.ensures.means in
     let fine = c.value_of-high.ensures.within in (
-      first (upward v.rules laws) v.means (v.within 1) (λ x e. entry x ≡ e) (λ k a b d e. sym d ∙ e) high is fine,
-      first (downward v.rules laws) v.means (v.within 1) (λ x e. entry x ≡ e) (λ k a b d e. sym d ∙ e) high is fine,
+      first (upward v.rules laws) v.means (v.within 1) (λ x e. entry x ≡ e) (λ a b d e. sym d ∙ e) high is fine,
+      first (downward v.rules laws) v.means (v.within 1) (λ x e. entry x ≡ e) (λ a b d e. sym d ∙ e) high is fine,
     )
 
 pub loop-x-preserved : goal.loop-x-preserved
@@ -40,8 +40,8 @@ loop-x-preserved g c =
     let entry = along v.rules l.table.now l.stride c.args.from in
     let is = sym c.value_of-value.ensures.means in
     let fine = c.value_of-value.ensures.within in (
-      next (upward v.rules laws) v.means (v.within 1) (λ x e. entry x ≡ e) (λ k a b d e. sym d ∙ e) c.loop-x.x c.loop-x.high new c.loop-x.invariant.0 is fine c.higher-high.result c.higher-high.ensures,
-      next (downward v.rules laws) v.means (v.within 1) (λ x e. entry x ≡ e) (λ k a b d e. sym d ∙ e) c.loop-x.x c.loop-x.low new c.loop-x.invariant.1 is fine c.lower-low.result c.lower-low.ensures,
+      next (upward v.rules laws) v.means (v.within 1) (λ x e. entry x ≡ e) c.loop-x.x (λ a b d e. sym d ∙ e) c.loop-x.high new c.loop-x.invariant.0 is fine c.higher-high.result c.higher-high.ensures,
+      next (downward v.rules laws) v.means (v.within 1) (λ x e. entry x ≡ e) c.loop-x.x (λ a b d e. sym d ∙ e) c.loop-x.low new c.loop-x.invariant.1 is fine c.lower-low.result c.lower-low.ensures,
     )
 
 pub returns : goal.returns
