@@ -1,6 +1,6 @@
-// A layout with one more variable, or one more function.
+// Adding a variable, or a function.
 ghost use Rattle.std.specs.Prelude.{◌≡◌, ℕ, ◌+◌, ◌<◌, ◌≤◌, [], ◌∷◌, ◌++◌, length, MatchBool, slice_index};
-ghost use Rattle.theory.specs.Refusals.{Answered, variable_tests, scope_tests, function_tests};
+ghost use Rattle.theory.specs.Refusals.{Answered, Untouched, variable_tests, scope_tests, function_tests};
 ghost use Rattle.theory.specs.Sizes.{combinations, Known};
 ghost use Rattle.layout.specs.Numbers.{problem_number};
 ghost use Rattle.layout.specs.Scopes.{listed, NoneTwice};
@@ -44,9 +44,10 @@ impl Layout {
         }
     }
 
-    // One more variable, with a domain of this size.
-    pub fn with_variable(self, size: usize) -> Result<Layout, ProblemFault>
-        ensures { Answered problem_number (variable_tests (length (domains_of self)) size) (λ l. (domains_of l ≡ domains_of self ++ (size ∷ [])) × (scopes_of l ≡ scopes_of self)) result }
+    // Adds a variable, with a domain of this size.
+    pub fn add_variable(&mut self, size: usize) -> Result<(), ProblemFault>
+        ensures answer { Answered problem_number (variable_tests (length (domains_of self.old)) size) (λ _. (domains_of self.new ≡ domains_of self.old ++ (size ∷ [])) × (scopes_of self.new ≡ scopes_of self.old)) result }
+        ensures declined { Untouched result self.old self.new }
     {
         if size < 1 || size > MOST_VALUES {
             return Err(ProblemFault::DomainSize);
@@ -54,18 +55,18 @@ impl Layout {
         if self.domains.len() >= MOST_VARIABLES {
             return Err(ProblemFault::ManyVariables);
         }
-        Ok(self.push_variable(size))
+        self.push_variable(size);
+        Ok(())
     }
 
-    fn push_variable(mut self, size: usize) -> Layout
-        requires room { length (domains_of self) < 64 }
+    fn push_variable(&mut self, size: usize)
+        requires room { length (domains_of self.old) < 64 }
         requires some { 1 ≤ size }
         requires small { size ≤ 16 }
-        ensures domains { domains_of result ≡ domains_of self ++ (size ∷ []) }
-        ensures scopes { scopes_of result ≡ scopes_of self }
+        ensures domains { domains_of self.new ≡ domains_of self.old ++ (size ∷ []) }
+        ensures scopes { scopes_of self.new ≡ scopes_of self.old }
     {
         self.domains.push(size as u8);
-        self
     }
 
     // A scope of known variables, none of them twice.
@@ -98,9 +99,10 @@ impl Layout {
             .product()
     }
 
-    // One more function, of this scope.
-    pub fn with_function(self, scope: &[usize]) -> Result<Layout, ProblemFault>
-        ensures { Answered problem_number (function_tests (domains_of self) (length (scopes_of self)) (words_in self) scope.now) (λ l. (domains_of l ≡ domains_of self) × (scopes_of l ≡ scopes_of self ++ (scope.now ∷ []))) result }
+    // Adds a function of this scope.
+    pub fn add_function(&mut self, scope: &[usize]) -> Result<(), ProblemFault>
+        ensures answer { Answered problem_number (function_tests (domains_of self.old) (length (scopes_of self.old)) (words_in self.old) scope.now) (λ _. (domains_of self.new ≡ domains_of self.old) × (scopes_of self.new ≡ scopes_of self.old ++ (scope.now ∷ []))) result }
+        ensures declined { Untouched result self.old self.new }
     {
         let places = self.scope_of(scope)?;
         if self.functions() >= MOST_FUNCTIONS {
@@ -111,30 +113,37 @@ impl Layout {
         if table > MOST_IN_TABLE || end > MOST_WORDS {
             return Err(ProblemFault::TableSize);
         }
-        Ok(self.push_function(places, end))
+        self.push_function(places, end);
+        Ok(())
     }
 
-    fn push_function(self, scope: Scope, end: usize) -> Layout
-        requires room { length (scopes_of self) < 64 }
+    fn push_function(&mut self, scope: Scope, end: usize)
+        requires room { length (scopes_of self.old) < 64 }
         requires some { 1 ≤ length (listed scope) }
-        requires known { Known (length (domains_of self)) (listed scope) }
-        requires small { combinations (domains_of self) (listed scope) ≤ 1024 }
-        requires end { end ≡ words_in self + combinations (domains_of self) (listed scope) }
+        requires known { Known (length (domains_of self.old)) (listed scope) }
+        requires small { combinations (domains_of self.old) (listed scope) ≤ 1024 }
+        requires end { end ≡ words_in self.old + combinations (domains_of self.old) (listed scope) }
         requires few { end ≤ 4096 }
-        ensures domains { domains_of result ≡ domains_of self }
-        ensures scopes { scopes_of result ≡ scopes_of self ++ (listed scope ∷ []) }
+        ensures domains { domains_of self.new ≡ domains_of self.old }
+        ensures scopes { scopes_of self.new ≡ scopes_of self.old ++ (listed scope ∷ []) }
     {
-        let Layout {
-            domains,
-            mut scopes,
-            mut starts,
-        } = self;
-        scopes.push(scope);
-        starts[scopes.len()] = end;
-        Layout {
-            domains,
-            scopes,
-            starts,
-        }
+        self.scopes.push(scope);
+        self.starts[self.scopes.len()] = end;
+    }
+
+    // The layout with one more variable, with a domain of this size.
+    pub fn with_variable(mut self, size: usize) -> Result<Layout, ProblemFault>
+        ensures { Answered problem_number (variable_tests (length (domains_of self)) size) (λ l. (domains_of l ≡ domains_of self ++ (size ∷ [])) × (scopes_of l ≡ scopes_of self)) result }
+    {
+        self.add_variable(size)?;
+        Ok(self)
+    }
+
+    // The layout with one more function, of this scope.
+    pub fn with_function(mut self, scope: &[usize]) -> Result<Layout, ProblemFault>
+        ensures { Answered problem_number (function_tests (domains_of self) (length (scopes_of self)) (words_in self) scope.now) (λ l. (domains_of l ≡ domains_of self) × (scopes_of l ≡ scopes_of self ++ (scope.now ∷ []))) result }
+    {
+        self.add_function(scope)?;
+        Ok(self)
     }
 }

@@ -7,9 +7,9 @@ use Rattle.layout.specs.View.{domains_of}
 use Rattle.layout.proofs.Shapes.{Fitting, fitting, fitting_function}
 use Rattle.layout.proofs.layout.Layout.push_function.Goals as goal
 
-pub invariant_of-result : goal.invariant_of-result
-invariant_of-result c =
-    let l = c.args.self in
+pub invariant_of-self : goal.invariant_of-self
+invariant_of-self c =
+    let l = c.args.self.now in
     let s = c.args.scope in
     let more = ap (map listed) c.push.ensures ∙ map_push listed (items_of l.scopes) s in
     let at = c.len.ensures.long ∙ ap length c.push.ensures ∙ length_push (items_of l.scopes) s in
@@ -19,4 +19,4 @@ invariant_of-result c =
     record { room = simp length-set l.room; sizes = fits.sizes; places = fits.places; known = fits.known; small = fits.small; few = fits.few; used = fits.used; placed = fits.placed }
 
 pub returns : goal.returns
-returns c = record { domains = refl; scopes = ap (map listed) c.push.ensures ∙ map_push listed (items_of c.args.self.scopes) c.args.scope }
+returns c = record { domains = refl; scopes = ap (map listed) c.push.ensures ∙ map_push listed (items_of c.args.self.now.scopes) c.args.scope }
