@@ -2,10 +2,10 @@
 use Rattle.std.specs.Prelude.{◌≡◌, ℕ, ◌*◌, ◌/◌, ◌<◌, ◌≤◌, ◌⊎◌, List, length, slice_index}
 use Rattle.scale.specs.Rules.{Rules}
 use Rattle.theory.specs.Problem.{Problem, variables, functions, words_in_order}
+use Rattle.layout.specs.declared.layout.Layout.{Layout}
 use Rattle.tables.specs.declared.tables.Tables.{Tables}
 use Rattle.tables.specs.View.{problem_of}
 use Rattle.file.specs.declared.places.Header.{Header}
-use Rattle.file.specs.declared.reading.Found.{Found}
 use Rattle.file.specs.Bytes.{half, word}
 use Rattle.file.specs.Places.{file_length}
 use Rattle.file.specs.Reading.{ReadAs}
@@ -29,15 +29,15 @@ pub record CountsOf (P : Problem) (h : Header) : Type 0 where
   pub function_count : h.functions ≡ functions P
   pub entry_count : h.entries ≡ length (words_in_order P)
 
--- tables hold the layout and the entries that were found
-pub record Holds (t : Tables) (found : Found) : Type 0 where
-  pub layout : t.layout ≡ found.layout
-  pub words : (k : ℕ) → k < length found.entries.now / 4 → slice_index t.words k ≡ word found.entries.now (4 * k)
+-- tables hold a layout and a section of entries
+pub record Holds (t : Tables) (l : Layout) (entries : List ℕ) : Type 0 where
+  pub layout : t.layout ≡ l
+  pub words : (k : ℕ) → k < length entries / 4 → slice_index t.words k ≡ word entries (4 * k)
 
--- What is found in a file that meets no test, and so what tables that hold it are.
-pub record FoundIn {E : Type 0} (R : Rules E) (bs : List ℕ) (found : Found) : Type 0 where
-  pub few : length found.entries.now ≤ 16384
-  pub read_as : (t : Tables) → Holds t found → ReadAs R bs (problem_of t)
+-- The layout and the entries that are found in a file that meets no test, and so what tables that hold them are.
+pub record FoundIn {E : Type 0} (R : Rules E) (bs : List ℕ) (l : Layout) (entries : List ℕ) : Type 0 where
+  pub few : length entries ≤ 16384
+  pub read_as : (t : Tables) → Holds t l entries → ReadAs R bs (problem_of t)
 
 -- Bytes were written from one place up to another, and nothing else was changed.
 pub record Written (before after : List ℕ) (from to : ℕ) : Type 0 where

@@ -52,19 +52,19 @@ module _ {E : Type 0} (R : Rules E) (bs ds ss es : List ℕ) (h : Header) (count
   word_same : (k : ℕ) → k < half bs 6 → word es (4 * k) ≡ word bs (entries_place (half bs 2) (half bs 4) + 4 * k)
   word_same k lt = ap (λ (s : List ℕ). word s (4 * k)) entries ∙ word_part bs (entries_place (half bs 2) (half bs 4)) (4 * half bs 6) (4 * k) (omega arith)
 
-pub returns-in_err-layout : goal.returns-in_err-layout
+pub returns-in_err-read_layout : goal.returns-in_err-read_layout
 unfolding after_header layout_tests_of words_tests_of
-returns-in_err-layout g c =
+returns-in_err-read_layout g c =
     let R = g.V.Scale.rules in
     let bs = c.args.bytes.now in
     let h = c.in_ok-header.header in
     let head = c.in_ok-header.ensures in
     let parts = c.cut-sections.ensures in
-    let f = c.in_err-layout.field-0.0 in
-    let e = err_from_is_err_and c.from_residual-in_err-layout.result c.from_residual-in_err-layout.ensures.1 in
+    let f = c.in_err-read_layout.field-0.0 in
+    let e = err_from_is_err_and c.from_residual-in_err-read_layout.result c.from_residual-in_err-read_layout.ensures.1 in
     let none = subst (λ (n : ℕ). NoneFits (header_tests n bs)) c.code.ensures head.0 in
     let same = layout_same R bs _ _ _ h head.1.counted parts.domains parts.scopes parts.entries parts.lengths in
-    let here = subst (λ (ts : List ((ℕ × ℕ) × Type 0)). First ts (refusal f)) same c.in_err-layout.ensures in
+    let here = subst (λ (ts : List ((ℕ × ℕ) × Type 0)). First ts (refusal f)) same c.in_err-read_layout.ensures in
     rw (e.1, e.2) (first_after (header_tests R.code bs) (after_header R bs) (refusal f) none (first_before (layout_tests_of bs) (words_tests_of R bs) (refusal f) here))
 
 pub returns-in_err-test_words : goal.returns-in_err-test_words
@@ -79,7 +79,7 @@ returns-in_err-test_words g c =
     let e = err_from_is_err_and c.from_residual-in_err-test_words.result c.from_residual-in_err-test_words.ensures.1 in
     let none = subst (λ (n : ℕ). NoneFits (header_tests n bs)) c.code.ensures head.0 in
     let same = layout_same R bs _ _ _ h head.1.counted parts.domains parts.scopes parts.entries parts.lengths in
-    let layout_none = subst (λ (ts : List ((ℕ × ℕ) × Type 0)). NoneFits ts) same c.in_ok-layout.ensures.0 in
+    let layout_none = subst (λ (ts : List ((ℕ × ℕ) × Type 0)). NoneFits ts) same c.in_ok-read_layout.ensures.0 in
     let words = words_same R bs _ _ _ h head.1.counted parts.domains parts.scopes parts.entries parts.lengths c.entries_place.result c.entries_place.ensures in
     let here = subst (λ (ts : List ((ℕ × ℕ) × Type 0)). First ts (refusal f)) words c.in_err-test_words.ensures in
     rw (e.1, e.2) (first_after (header_tests R.code bs) (after_header R bs) (refusal f) none (first_after (layout_tests_of bs) (words_tests_of R bs) (refusal f) layout_none here))
@@ -95,13 +95,13 @@ returns g c =
     let parts = c.cut-sections.ensures in
     let told = head.1 in
     let counted = told.counted in
-    let after = c.in_ok-layout.ensures in
+    let after = c.in_ok-read_layout.ensures in
     let none = subst (λ (n : ℕ). NoneFits (header_tests n bs)) c.code.ensures head.0 in
     let same = layout_same R bs _ _ _ h counted parts.domains parts.scopes parts.entries parts.lengths in
     let layout_none = subst (λ (ts : List ((ℕ × ℕ) × Type 0)). NoneFits ts) same after.0 in
     let words = words_same R bs _ _ _ h counted parts.domains parts.scopes parts.entries parts.lengths c.entries_place.result c.entries_place.ensures in
     let words_none = subst (λ (ts : List ((ℕ × ℕ) × Type 0)). NoneFits ts) words c.in_ok-test_words.ensures.0 in
-    let Held = λ (t : Tables). Holds t (record { layout = c.in_ok-layout.layout; entries = c.cut-sections.result.entries }) in
+    let Held = λ (t : Tables). Holds t c.read_layout.new.layout c.cut-sections.result.entries.now in
     let same-domains = λ (t : Tables) (held : Held t). ap domains_of held.layout ∙ after.1.0 ∙ parts.domains in
     let same-scopes = λ (t : Tables) (held : Held t). ap scopes_of held.layout ∙ after.1.1 ∙ ap₂ scopes_told parts.scopes (scope_count R bs _ _ _ h counted parts.domains parts.scopes parts.entries parts.lengths) in
     let same-words = λ (t : Tables) (held : Held t) (k : ℕ) (lt : k < half bs 6).

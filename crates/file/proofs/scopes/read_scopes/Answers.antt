@@ -12,7 +12,7 @@ use Rattle.file.proofs.Testing.{none_each, none_more, first_each}
 use Rattle.file.proofs.scopes.read_scopes.Goals as goal
 
 pub loop-f-init : goal.loop-f-init
-loop-f-init c = (none_each (scope_tests_at (domains_of c.args.layout) c.args.section.now), refl, c.requires)
+loop-f-init c = (none_each (scope_tests_at (domains_of c.args.layout.now) c.args.section.now), refl, c.requires)
 
 -- the tests of a record, where the layout so far tells what the section tells
 module _ (layout next : Layout) (section bytes : List ℕ) (f place : ℕ)
@@ -41,30 +41,30 @@ module _ (layout next : Layout) (section bytes : List ℕ) (f place : ℕ)
       e ∙ ap₂ (λ (ss : List (List ℕ)) (bs : List ℕ). ss ++ (scope_told bs ∷ [])) scopes part
       ∙ sym (map-range_with_len_more (λ (g : ℕ). scope_told (record_at section g)) 0 f f (omega arith))
 
-pub returns-in_err-next : goal.returns-in_err-next
-returns-in_err-next c =
+pub returns-in_err-read_scope : goal.returns-in_err-read_scope
+returns-in_err-read_scope c =
     let section = c.args.section.now in
     let n = length section / 5 in
     let f = c.loop-f.f in
     let known : f < n = omega arith in
     let placed = ap (λ (ds : List ℕ). 16 + length ds + 5 * f) c.domains.ensures in
     let part = ap (λ (rs : List (List ℕ)). get_or rs f []) c.as_chunks.ensures.front ∙ chunk_at 5 n f section known in
-    let a = c.in_err-next.field-0.0 in
+    let a = c.in_err-read_scope.field-0.0 in
     let e = err_from_is_err_and c.from_residual.result c.from_residual.ensures.1 in
-    let here = first_here c.args.layout c.loop-f.next section _ f _ c.loop-f.invariant.1 c.loop-f.invariant.2 placed part (refusal a) c.in_err-next.ensures in
-    rw (e.1, e.2) (first_each (scope_tests_at (domains_of c.args.layout) section) n f (refusal a) known c.loop-f.invariant.0 here)
+    let here = first_here c.args.layout.now c.loop-f.layout section _ f _ c.loop-f.invariant.1 c.loop-f.invariant.2 placed part (refusal a) c.in_err-read_scope.ensures in
+    rw (e.1, e.2) (first_each (scope_tests_at (domains_of c.args.layout.now) section) n f (refusal a) known c.loop-f.invariant.0 here)
 
 pub loop-f-preserved : goal.loop-f-preserved
 loop-f-preserved c =
-    let layout = c.args.layout in
+    let layout = c.args.layout.now in
     let section = c.args.section.now in
     let n = length section / 5 in
     let f = c.loop-f.f in
     let placed = ap (λ (ds : List ℕ). 16 + length ds + 5 * f) c.domains.ensures in
     let part = ap (λ (rs : List (List ℕ)). get_or rs f []) c.as_chunks.ensures.front ∙ chunk_at 5 n f section (omega arith) in
-    let h = c.in_ok-next.ensures in (
+    let h = c.in_ok-read_scope.ensures in (
       none_more (scope_tests_at (domains_of layout) section) f c.loop-f.invariant.0
-          (none_here layout c.loop-f.next section _ f _ c.loop-f.invariant.1 c.loop-f.invariant.2 placed part h.0),
+          (none_here layout c.loop-f.layout section _ f _ c.loop-f.invariant.1 c.loop-f.invariant.2 placed part h.0),
       h.1.0 ∙ c.loop-f.invariant.1,
-      scopes_more layout c.loop-f.next section _ f _ c.loop-f.invariant.1 c.loop-f.invariant.2 placed part (scopes_of c.in_ok-next.next) h.1.1,
+      scopes_more layout c.loop-f.layout section _ f _ c.loop-f.invariant.1 c.loop-f.invariant.2 placed part (scopes_of c.read_scope.new.layout) h.1.1,
     )

@@ -6,6 +6,6 @@ use Rattle.file.proofs.scopes.read_scopes.Given as goal
 
 abbrev pub invariant-loop-f : goal.invariant-loop-f
 invariant-loop-f l =
-    NoneFits (each l.f (scope_tests_at (domains_of l.initial.next) l.section))
-    × (domains_of l.next ≡ domains_of l.initial.next)
-    × (scopes_of l.next ≡ scopes_told l.section l.f)
+    NoneFits (each l.f (scope_tests_at (domains_of l.initial.layout) l.section))
+    × (domains_of l.layout ≡ domains_of l.initial.layout)
+    × (scopes_of l.layout ≡ scopes_told l.section l.f)
