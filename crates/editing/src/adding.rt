@@ -1,28 +1,25 @@
 // One more variable, or one more function.
-ghost use Rattle.std.specs.Prelude.{◌≡◌, ℕ, ◌-◌, ◌≤◌, [], ◌∷◌, ◌++◌, length, take, drop, replicate};
+ghost use Rattle.std.specs.Prelude.{◌≡◌, ℕ, ◌-◌, ◌≤◌, ◌++◌, length, take, drop, replicate};
 ghost use Rattle.theory.specs.Problem.{variables, functions};
 ghost use Rattle.theory.specs.Refusals.{Answered, Untouched, variable_tests, function_tests};
 ghost use Rattle.theory.specs.Sizes.{all_words};
 ghost use Rattle.layout.specs.Numbers.{problem_number};
-ghost use Rattle.layout.specs.View.{domains_of, scopes_of};
 ghost use Rattle.tables.specs.View.{problem_of};
 ghost use Rattle.calls.specs.State.{Call};
 ghost use Rattle.calls.specs.Step.{unreported, with_variable, with_function};
 ghost use Rattle.calls.specs.Tests.{tests};
 
-use layout::{Layout, ProblemFault};
+use layout::ProblemFault;
 use scale::Scale;
 use tables::Tables;
 
-// Takes on a layout with one more variable; answers the number of that variable.
-fn take_variable(tables: &mut Tables, layout: Layout) -> usize
-    requires { scopes_of layout ≡ scopes_of tables.old.layout }
-    ensures number { result ≡ variables (problem_of tables.old) }
-    ensures after { (size : ℕ) → domains_of layout ≡ domains_of tables.old.layout ++ (size ∷ []) → problem_of tables.new ≡ with_variable (problem_of tables.old) size }
+// Adds a variable to the layout; the words stay.
+fn extend(tables: &mut Tables, size: usize) -> Result<(), ProblemFault>
+    ensures answer { Answered problem_number (variable_tests (variables (problem_of tables.old)) size) (λ _. problem_of tables.new ≡ with_variable (problem_of tables.old) size) result }
+    ensures declined { Untouched result tables.old tables.new }
 {
-    let number = tables.layout.domains().len();
-    tables.layout = layout;
-    number
+    tables.layout.add_variable(size)?;
+    Ok(())
 }
 
 // One more variable, with a domain of this size; answers its number.
@@ -30,8 +27,9 @@ pub fn add_variable(tables: &mut Tables, size: usize) -> Result<usize, ProblemFa
     ensures answer { Answered problem_number (variable_tests (variables (problem_of tables.old)) size) (λ n. (n ≡ variables (problem_of tables.old)) × (problem_of tables.new ≡ with_variable (problem_of tables.old) size)) result }
     ensures declined { Untouched result tables.old tables.new }
 {
-    let layout = tables.layout.with_variable(size)?;
-    Ok(take_variable(tables, layout))
+    let number = tables.layout.domains().len();
+    extend(tables, size)?;
+    Ok(number)
 }
 
 // Writes a word into all places from one up to another.
@@ -48,11 +46,11 @@ fn append(tables: &mut Tables, scope: &[usize], word: u32) -> Result<usize, Prob
     ensures answer { Answered problem_number (function_tests (problem_of tables.old).domains (functions (problem_of tables.old)) (all_words (problem_of tables.old).tables) scope.now) (λ n. (n ≡ functions (problem_of tables.old)) × (problem_of tables.new ≡ with_function (problem_of tables.old) scope.now word)) result }
     ensures declined { Untouched result tables.old tables.new }
 {
-    let layout = tables.layout.with_function(scope)?;
     let number = tables.layout.functions();
     let start = tables.layout.words();
-    fill(&mut tables.words, start, layout.words(), word);
-    tables.layout = layout;
+    tables.layout.add_function(scope)?;
+    let end = tables.layout.words();
+    fill(&mut tables.words, start, end, word);
     Ok(number)
 }
 
