@@ -52,7 +52,7 @@ impl Scale for Capped {
 
     fn join(self, other: Capped) -> Capped {
         Capped {
-            value: levels::cut(levels::cut(self.value) + levels::cut(other.value)),
+            value: levels::cut(self.value.saturating_add(other.value)),
         }
     }
 

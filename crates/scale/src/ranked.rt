@@ -1,6 +1,6 @@
 // Ranked: two numbers, of which the first counts first; joining adds both.
 ghost use Rattle.std.specs.Prelude.{◌≡◌, ◌*◌, ◌/◌, ◌%◌, ℤ, ◌+ℤ◌, ◌-ℤ◌, refl, is_ok, IfOk};
-ghost use Rattle.std.specs.Int.{saturate_to_bits, w16};
+ghost use Rattle.std.specs.Int.{w16, w32, int_wrapping_add, int_wrapping_sub};
 ghost use Rattle.std.proofs.Common.{to_z, arith};
 ghost use Rattle.scale.specs.Points.{Span};
 ghost use Rattle.scale.specs.Ranks.{rank, rank_entry, rank_reads, ranked};
@@ -42,24 +42,24 @@ fn entry(word: u32) -> Result<Ranked, ScaleFault>
     }
 }
 
-// The machine's sum and difference, cut where they pass its range; few enough entries never do.
+// The machine's sum and difference, wrapped where they pass its range; few enough entries never do, and to wrap costs least.
 fn plus(a: Ranked, b: Ranked) -> Ranked
-    ensures first { result.first ≡ saturate_to_bits 31 (a.first +ℤ b.first) }
-    ensures second { result.second ≡ saturate_to_bits 31 (a.second +ℤ b.second) }
+    ensures first { result.first ≡ int_wrapping_add w32 a.first b.first }
+    ensures second { result.second ≡ int_wrapping_add w32 a.second b.second }
 {
     Ranked {
-        first: a.first.saturating_add(b.first),
-        second: a.second.saturating_add(b.second),
+        first: a.first.wrapping_add(b.first),
+        second: a.second.wrapping_add(b.second),
     }
 }
 
 fn minus(a: Ranked, b: Ranked) -> Ranked
-    ensures first { result.first ≡ saturate_to_bits 31 (a.first -ℤ b.first) }
-    ensures second { result.second ≡ saturate_to_bits 31 (a.second -ℤ b.second) }
+    ensures first { result.first ≡ int_wrapping_sub w32 a.first b.first }
+    ensures second { result.second ≡ int_wrapping_sub w32 a.second b.second }
 {
     Ranked {
-        first: a.first.saturating_sub(b.first),
-        second: a.second.saturating_sub(b.second),
+        first: a.first.wrapping_sub(b.first),
+        second: a.second.wrapping_sub(b.second),
     }
 }
 
