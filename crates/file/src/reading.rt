@@ -58,6 +58,7 @@ pub fn read<V: Scale>(bytes: &[u8], tables: &mut Tables) -> Result<(), FileFault
     ensures answer { Answered refusal (file_tests V.Scale.rules bytes.now) (λ _. ReadAs V.Scale.rules bytes.now (problem_of tables.new)) result }
     ensures declined { Untouched result tables.old tables.new }
 {
+    // A draft, which the tables take on once the whole file is accepted.
     let mut layout = Layout::empty();
     let entries = examine::<V>(&mut layout, bytes)?;
     store(tables, &layout, entries);
