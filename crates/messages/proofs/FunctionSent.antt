@@ -137,7 +137,7 @@ module _ {V E : Type 0} (R : Rules E) (L : Plain R) (means : V → E) (within : 
         let some : V = some_element cells long in
         let held : V → V = get_or cells (function_cell f x) in
         let (i, is, leads) = leading x inside held some (get_or row x None) (λ d.
-        subst (λ (i : ℕ). Running R means within (Candidate s x) (gives R s cuts m.q) (most n x) i (best_of (get_or row x None) (held d))) whole (running m.q n.q (most n) supplied x small d)) in
+        subst (λ (i : ℕ). Running R means within (Candidate s x) (gives R s cuts m.q) (most n x) i (best_of (get_or row x None) (held d))) whole (running x small d m.q n.q (most n) supplied)) in
         let b : Best V = record { value = held some; index = i } in
         let (y, takes, stands) = takes_is R L P sound kept H well f known cut_at entries cut is_cut m x (best x inside b (leads some)) i (first_highest x inside b (leads some)) (best_is x inside b (leads some)) in (
           λ d. message_stands x inside (record { value = held d; index = i }) (leads d),

@@ -9,5 +9,6 @@ pub mod Running
 pub mod Writing
 pub mod OfPlaces
 pub mod FunctionSent
+pub mod WholeTable
 pub mod Passing
 pub mod Following

@@ -1,6 +1,7 @@
 pub mod Place
 pub mod Combinations
 pub mod Places
+pub mod Rows
 pub mod Counts
 pub mod Holding
 pub mod Rooted

@@ -29,11 +29,15 @@ sizes_in s = map (λ (p : Place). p.size) (places_in s)
 abbrev pub cut_index : Places → ℕ → ℕ
 cut_index s i = index (sizes_in s) (cleared (λ p. (place_in s p).kept) (combination (sizes_in s) i))
 
--- The words are the cut table: at each index with 0 at the removed places, the lowest entry of the indices with the same values at the kept places.
+-- The words are the cut table by the first n indices: at each index with 0 at the removed places, the lowest entry of those indices with the same values at the kept places.
+abbrev pub CutTo : {E : Type 0} → Rules E → Places → List ℕ → ℕ → List ℕ → Type 0
+CutTo R s table n words =
+    (k : ℕ) → k < n → cut_index s k ≡ k → (d : ℕ) →
+    Lowest R (λ j. (j < n) × (cut_index s j ≡ k)) (λ j. R.reads (slice_index table j)) (R.reads (slice_index_or words k d))
+
+-- the same by all indices
 abbrev pub CutWords : {E : Type 0} → Rules E → Places → List ℕ → List ℕ → Type 0
-CutWords R s table words =
-    (k : ℕ) → k < length table → cut_index s k ≡ k → (d : ℕ) →
-    Lowest R (λ j. (j < length table) × (cut_index s j ≡ k)) (λ j. R.reads (slice_index table j)) (R.reads (slice_index_or words k d))
+CutWords R s table words = CutTo R s table (length table) words
 
 -- the place p of the function f, with the kept links, hung as H says
 abbrev pub place_at : Problem → (ℕ → Bool) → Hanging → ℕ → ℕ → Place

@@ -1,5 +1,5 @@
 -- What comes up to a function by its places, and the best of its entries. Assumes nothing.
-use Rattle.std.specs.Prelude.{◌≡◌, ℕ, ◌+◌, ◌<◌, ◌≤◌, true, false, cond, List, length, slice_index, slice_index_or, Some, None, Option}
+use Rattle.std.specs.Prelude.{◌≡◌, ℕ, ◌+◌, ◌<◌, ◌≤◌, true, false, cond, List, length, slice_index, slice_index_or, take, Some, None, Option}
 use Rattle.scale.specs.Rules.{Rules}
 use Rattle.theory.specs.Joins.{joins, when}
 use Rattle.messages.specs.declared.places.Places.{Places}
@@ -7,7 +7,7 @@ use Rattle.messages.specs.Combinations.{combination}
 use Rattle.joining.specs.Counts.{counts}
 use Rattle.joining.specs.Standing.{StandsFor}
 use Rattle.messages.specs.Holding.{Holds}
-use Rattle.messages.specs.Places.{place_in, count_in, sizes_in, cut_index}
+use Rattle.messages.specs.Places.{place_in, count_in, sizes_in, cut_index, CutWords}
 use Rattle.messages.specs.Sent.{variable_cell, function_cell, choice_cell}
 
 -- For messages q of variables: what comes up at the values xs from the variables below, by the first k places.
@@ -70,11 +70,26 @@ module _ {V E : Type 0} (R : Rules E) (means : V → E) (within : ℕ → V → 
   Running D value most i None = (j : ℕ) → j < i → D j → ⊥
   Running D value most i (Some b) = Leads D value most i b
 
-  -- For each value x of the parent of f, the best entry among the first i indices of its cut table; `before` are the cells as they were, with the messages from below.
+  -- The best entry, with its value, among the first i indices of the cut table at the value x of the parent; `before` are the cells with the messages from below.
+  abbrev pub BestAt : Places → List ℕ → List V → ℕ → ℕ → Option ℕ → V → Type 0
+  BestAt s cuts before i x index value =
+      (q : ℕ → ℕ → E) (n : ℕ → ℕ → ℕ) (most : ℕ → ℕ) → Supplied s (length cuts) before q n most →
+      Running (Candidate s x) (gives R s cuts q) (most x) i (best_of index value)
+
+  -- The same at each value of the parent of f: the indices stand in the row, the values in the cells of f.
   abbrev pub BestEntries : Places → ℕ → List ℕ → List V → ℕ → List (Option ℕ) → List V → Type 0
   BestEntries s f cuts before i row cells =
-      (q : ℕ → ℕ → E) (n : ℕ → ℕ → ℕ) (most : ℕ → ℕ) → Supplied s (length cuts) before q n most →
-      (x : ℕ) → x < 16 → (d : V) → Running (Candidate s x) (gives R s cuts q) (most x) i (best_of (slice_index_or row x None) (slice_index_or cells (function_cell f x) d))
+      (x : ℕ) → x < 16 → (d : V) → BestAt s cuts before i x (slice_index_or row x None) (slice_index_or cells (function_cell f x) d)
+
+  -- The best entries of the cut table stand in the cells of f, and where each stands in its choices.
+  abbrev pub Entered : Places → ℕ → List ℕ → List V → List V → List ℕ → Type 0
+  Entered s f cuts before cells choices =
+      (row : List (Option ℕ)) × BestEntries s f cuts before (length cuts) row cells × Chosen (take (place_in s s.parent).size row) f choices
+
+  -- The same of the cut table of some table.
+  abbrev pub EnteredFrom : Places → ℕ → List ℕ → List V → List V → List ℕ → Type 0
+  EnteredFrom s f table before cells choices =
+      (cuts : List ℕ) × (length cuts ≡ length table) × CutWords R s table cuts × Entered s f cuts before cells choices
 
 -- All cells but those that pass the test are as they were.
 abbrev pub OnlyAt : {T : Type 0} → (ℕ → Type 0) → List T → List T → Type 0

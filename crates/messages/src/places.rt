@@ -9,6 +9,7 @@ use short_list::ShortList;
 
 mod combining;
 mod making;
+mod parting;
 mod reading;
 
 #[derive(Clone, Copy)]

@@ -23,7 +23,7 @@ loop-at-init g c =
     let v = g.V.Scale in
     let s = c.args.places.now in (
       refl,
-      λ q n most given x h d.
+      λ x h d q n most given.
           subst (λ o. Running v.rules v.means v.within (Candidate s x) (gives v.rules s c.args.cuts.now q) (most x) 0 (best_of o (get_or c.args.values.now.cells.now (function_cell c.args.function x) d)))
           (sym (get_or-replicate 16 x None None h)) (λ j low. absurd (omega arith)),
       λ k d apart. refl,
@@ -37,8 +37,8 @@ module _ {V E : Type 0} (R : Rules E) (L : Plain R) (means : V → E) (within : 
     (row : List (Option ℕ)) (cells : List V) (so_far : BestEntries R means within s f cuts before i row cells) where
   -- no candidate stands at i
   skipped : (cut_index s i ≡ i → ⊥) → BestEntries R means within s f cuts before (i + 1) row cells
-  skipped other q n most given x h d =
-      passed R L means within (Candidate s x) (gives R s cuts q) (most x) i (best_of (get_or row x None) (get_or cells (function_cell f x) d)) (so_far q n most given x h d) (λ (k : Candidate s x i). other k.0)
+  skipped other x h d q n most given =
+      passed R L means within (Candidate s x) (gives R s cuts q) (most x) i (best_of (get_or row x None) (get_or cells (function_cell f x) d)) (so_far x h d q n most given) (λ (k : Candidate s x i). other k.0)
 
   module _ (x₀ : ℕ) (small : x₀ < 16) (value : V) (sixteen : length row ≡ 16) (candidate : Candidate s x₀ i)
       (stands : (q : ℕ → ℕ → E) (n : ℕ → ℕ → ℕ) (most : ℕ → ℕ) → Supplied R means within s (length cuts) before q n most → StandsFor means within (gives R s cuts q i) (most x₀) value)
@@ -46,17 +46,17 @@ module _ {V E : Type 0} (R : Rules E) (L : Plain R) (means : V → E) (within : 
       (here : (d : V) → best_of o (get_or cells' (function_cell f x₀) d) ≡ Some (better R means (best_of (get_or row x₀ None) (get_or cells (function_cell f x₀) d)) (record { value = value; index = i })))
       (others : OnlyAt (λ k. k ≡ function_cell f x₀) cells cells') where
     taken : BestEntries R means within s f cuts before (i + 1) (set row x₀ o) cells'
-    taken q n most given x h d = elim (cases_eq x x₀) [
+    taken x h d q n most given = elim (cases_eq x x₀) [
       | inl e ↦
           subst (λ (y : ℕ). Running R means within (Candidate s y) (gives R s cuts q) (most y) (i + 1) (best_of (get_or (set row x₀ o) y None) (get_or cells' (function_cell f y) d))) (sym e)
           (subst (λ t. Running R means within (Candidate s x₀) (gives R s cuts q) (most x₀) (i + 1) (best_of t (get_or cells' (function_cell f x₀) d))) (sym (get_or-set_same row x₀ o None (omega arith)))
           (subst (Running R means within (Candidate s x₀) (gives R s cuts q) (most x₀) (i + 1)) (sym (here d))
           (with_one R L means within (Candidate s x₀) (gives R s cuts q) (most x₀) i candidate value (stands q n most given)
-          (best_of (get_or row x₀ None) (get_or cells (function_cell f x₀) d)) (so_far q n most given x₀ small d))))
+          (best_of (get_or row x₀ None) (get_or cells (function_cell f x₀) d)) (so_far x₀ small d q n most given))))
       | inr apart ↦
           subst (Running R means within (Candidate s x) (gives R s cuts q) (most x) (i + 1))
           (sym (ap₂ best_of (get_or-set_other row x₀ x o None apart) (others (function_cell f x) d (λ k. apart (omega arith)))))
-          (passed R L means within (Candidate s x) (gives R s cuts q) (most x) i (best_of (get_or row x None) (get_or cells (function_cell f x) d)) (so_far q n most given x h d)
+          (passed R L means within (Candidate s x) (gives R s cuts q) (most x) i (best_of (get_or row x None) (get_or cells (function_cell f x) d)) (so_far x h d q n most given)
           (λ (k : Candidate s x i). apart (sym k.1 ∙ candidate.1)))
     ]
 
