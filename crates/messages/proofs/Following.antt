@@ -13,7 +13,7 @@ use Rattle.messages.proofs.Combining.{combination_within, within_at, one_more}
 use Rattle.messages.proofs.PlaceSizes.{sizes_length, size_is}
 
 -- a number has one last digit, and one number before it
-digits : (A B s a b : ℕ) → a < s → b < s → A * s + a ≡ B * s + b → (A ≡ B) × (a ≡ b)
+pub digits : (A B s a b : ℕ) → a < s → b < s → A * s + a ≡ B * s + b → (A ≡ B) × (a ≡ b)
 digits A B s a b la lb e = (sym (digits_div A la) ∙ ap (λ (n : ℕ). n / s) e ∙ digits_div B lb, sym (digits_mod A la) ∙ ap (λ (n : ℕ). n % s) e ∙ digits_mod B lb)
 
 -- The values xs and ys at the place p, where by the first p + 1 places ys stands the carry behind xs.

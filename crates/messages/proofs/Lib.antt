@@ -10,5 +10,7 @@ pub mod Writing
 pub mod OfPlaces
 pub mod FunctionSent
 pub mod WholeTable
+pub mod Rows
+pub mod Taking
 pub mod Passing
 pub mod Following

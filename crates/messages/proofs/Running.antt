@@ -1,6 +1,6 @@
 -- The first of the highest so far. Assumes nothing.
-use Rattle.std.proofs.Common.{◌≡◌, ℕ, ◌+◌, ◌<◌, true, false, cond, List, get_or, Some, None, Option, sym, ap, ap₂, ◌∙◌, subst, inl, inr, ⊎_elim, arith}
-use Rattle.std.proofs.lemmas.Bool.{cases_eq, both_ways, cases_Bool}
+use Rattle.std.proofs.Common.{◌≡◌, ℕ, ◌+◌, ◌<◌, ◌≤◌, true, false, cond, List, get_or, Some, None, Option, sym, ap, ap₂, ◌∙◌, subst, inl, inr, ⊎_elim, arith}
+use Rattle.std.proofs.lemmas.Bool.{cases_eq, cases_lt, both_ways, cases_Bool}
 use Rattle.scale.specs.Rules.{Rules}
 use Rattle.scale.specs.Laws.{Plain}
 use Rattle.theory.specs.Joins.{when}
@@ -15,12 +15,13 @@ pub upward_same : {E : Type 0} (R : Rules E) (s : Places) (q : ℕ → ℕ → E
 upward_same R s q xs ys k same = joins_cong R k (λ p h. ap (λ (x : ℕ). when R (place_in s p).below (q (place_in s p).variable x)) (same p h))
 
 module _ {V E : Type 0} (R : Rules E) (L : Plain R) (means : V → E) (within : ℕ → V → Type 0) (D : ℕ → Type 0) (value : ℕ → E) (most : ℕ) where
-  pub passed : (i : ℕ) (b : Option (Best V)) → Running R means within D value most i b → (D i → ⊥) → Running R means within D value most (i + 1) b
-  passed i None none other = λ j h here. elim (cases_eq j i) [ inl d ↦ other (subst D d here) | inr d ↦ none j (omega arith) here ]
-  passed i (Some b) leads other = record {
-    here = (let k = leads.here.0 in omega arith, leads.here.1);
+  -- Over numbers that are no candidates.
+  pub passed : (i k : ℕ) (b : Option (Best V)) → i ≤ k → Running R means within D value most i b → ((j : ℕ) → i ≤ j → j < k → D j → ⊥) → Running R means within D value most k b
+  passed i k None up none others = λ j h here. elim (cases_lt j i) [ inl low ↦ none j low here | inr past ↦ others j (omega arith) h here ]
+  passed i k (Some b) up leads others = record {
+    here = (let h = leads.here.0 in omega arith, leads.here.1);
     stands = leads.stands;
-    bound = λ j h here. elim (cases_eq j i) [ inl d ↦ absurd (other (subst D d here)) | inr d ↦ leads.bound j (omega arith) here ];
+    bound = λ j h here. elim (cases_lt j i) [ inl low ↦ leads.bound j low here | inr past ↦ absurd (others j (omega arith) h here) ];
     first = leads.first;
   }
 

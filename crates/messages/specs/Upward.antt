@@ -1,7 +1,8 @@
 -- What comes up to a function by its places, and the best of its entries. Assumes nothing.
-use Rattle.std.specs.Prelude.{◌≡◌, ℕ, ◌+◌, ◌<◌, ◌≤◌, true, false, cond, List, length, slice_index, slice_index_or, take, Some, None, Option}
+use Rattle.std.specs.Prelude.{◌≡◌, ℕ, ◌+◌, ◌-◌, ◌<◌, ◌≤◌, true, false, cond, List, length, slice_index, slice_index_or, take, Some, None, Option}
 use Rattle.scale.specs.Rules.{Rules}
 use Rattle.theory.specs.Joins.{joins, when}
+use Rattle.messages.specs.declared.place.Place.{Place}
 use Rattle.messages.specs.declared.places.Places.{Places}
 use Rattle.messages.specs.Combinations.{combination}
 use Rattle.joining.specs.Counts.{counts}
@@ -51,6 +52,18 @@ module _ {V E : Type 0} (R : Rules E) (means : V → E) (within : ℕ → V → 
   BelowHeld s cells q n =
       (p x : ℕ) → p < count_in s → (place_in s p).below ≡ true → x < (place_in s p).size →
       Holds means within cells (variable_cell (place_in s p).variable x) (q (place_in s p).variable x) (n (place_in s p).variable x)
+
+  -- `up` stands for what comes up from the variables below at the index j, by all places but the last.
+  abbrev pub OuterUp : Places → List V → ℕ → V → Type 0
+  OuterUp s cells j up =
+      (q : ℕ → ℕ → E) (n : ℕ → ℕ → ℕ) → BelowHeld s cells q n → upward counts s n (combination (sizes_in s) j) (count_in s - 1) ≤ 1024 →
+      StandsFor means within (upward R s q (combination (sizes_in s) j) (count_in s - 1)) (upward counts s n (combination (sizes_in s) j) (count_in s - 1)) up
+
+  -- `value` stands for the entry of a word, joined with what `up` stands for and with the message of the variable at the place `last`, if it is below, at its value x.
+  abbrev pub WithBelow : List V → ℕ → V → Place → ℕ → V → Type 0
+  WithBelow cells word up last x value =
+      (e m : E) (n l : ℕ) → StandsFor means within e n up → (last.below ≡ true → Holds means within cells (variable_cell last.variable x) m l) → 1 + (n + when counts last.below l) ≤ 1024 →
+      StandsFor means within (R.join (R.reads word) (R.join e (when R last.below m))) (1 + (n + when counts last.below l)) value
 
   -- What the best entries are made of: the messages q from below, and how many entries the message at a value x may be joined of.
   pub record Supplied (s : Places) (words : ℕ) (cells : List V) (q : ℕ → ℕ → E) (n : ℕ → ℕ → ℕ) (most : ℕ → ℕ) : Type 0 where

@@ -9,9 +9,9 @@ ghost use Rattle.messages.specs.Sent.{function_cell, choice_cell};
 ghost use Rattle.messages.specs.Upward.{Entered, EnteredFrom, OnlyAt};
 
 use crate::cutting::lay_cut;
+use crate::entries::{best_entries, write_choices};
 use crate::places::Places;
 use crate::rooted::RootedForest;
-use crate::upward::{best_entries, write_choices};
 use board::Board;
 use layout::MOST_IN_TABLE;
 use scale::Scale;

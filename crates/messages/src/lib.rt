@@ -2,6 +2,7 @@
 #![tactic(auto)]
 
 mod cutting;
+mod entries;
 mod functions;
 mod place;
 mod places;

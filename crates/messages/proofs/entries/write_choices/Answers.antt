@@ -2,8 +2,8 @@ use Rattle.std.proofs.Common.{◌+◌, ◌*◌, sym, ap, ◌∙◌, subst, arith
 use Rattle.board.specs.SameLent.{SameLent}
 use Rattle.board.proofs.SameLent.{same_self, same_both}
 use Rattle.messages.proofs.Writing.{WrittenTo, none_written, one_written, none_here, all_written}
-use Rattle.messages.proofs.upward.write_choices.Goals as goal
-use Rattle.messages.proofs.upward.write_choices.Goals.{in-Some, in_default}
+use Rattle.messages.proofs.entries.write_choices.Goals as goal
+use Rattle.messages.proofs.entries.write_choices.Goals.{in-Some, in_default}
 
 pub loop-x-init : goal.loop-x-init
 loop-x-init c = (none_written c.args.best.now (16 * c.args.function) c.args.choices.now.cells.now, same_self c.args.choices.now)
