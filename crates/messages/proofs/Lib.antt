@@ -5,6 +5,7 @@ pub mod AtPositions
 pub mod Counting
 pub mod GivenCounts
 pub mod Lowering
+pub mod Laying
 pub mod Running
 pub mod Writing
 pub mod OfPlaces

@@ -42,6 +42,14 @@ cleared_push : (test : ℕ → Bool) (xs : List ℕ) (x : ℕ) → cleared test 
 cleared_push test [] x = refl
 cleared_push test (y ∷ xs) x = ap (◌∷◌ (cond (test 0) y 0)) (cleared_push (λ p. test (suc p)) xs x)
 
+-- the rows so far are some of all
+pub row_known : (r rows known : ℕ) → r < rows → rows ≡ known → r < known
+row_known r rows known low is = omega arith
+
+-- the key of the row that some values stand at
+pub key_of : (o : Places) (r : ℕ) (values : List ℕ) → take (count_in o) values ≡ combination (sizes_in o) r → {key : ℕ} → key ≡ index (sizes_in o) (cleared (λ p. (place_in o p).kept) (take (count_in o) values)) → key ≡ cut_index o r
+key_of o r values stand is = is ∙ ap (λ (zs : List ℕ). index (sizes_in o) (cleared (λ p. (place_in o p).kept) zs)) stand
+
 -- o are the places of s but for the last.
 module _ (s o : Places) (outer : OuterOf s o) (last : Place) (is : last ≡ place_in s (count_in s - 1)) where
   pub one_more_place : count_in s ≡ count_in o + 1
@@ -71,6 +79,12 @@ module _ (s o : Places) (outer : OuterOf s o) (last : Place) (is : last ≡ plac
 
   pub rows_words : (words : ℕ) → words ≡ product (sizes_in s) → words / last.size * last.size ≡ words
   rows_words words full = ap (λ (n : ℕ). n * last.size) (rows_count words full) ∙ sym (full ∙ rows_full)
+
+  pub row_inside : (words : ℕ) → words ≡ product (sizes_in s) → (k : ℕ) → k < product (sizes_in o) → k * last.size + last.size ≤ words
+  row_inside words full k h =
+      let some = some_value in
+      let before : last.size - 1 < last.size = omega arith in
+      omega (arith, digits_lt h before, full, rows_full)
 
   -- Row r, where some values of the places stand.
   module _ (r : ℕ) (h : r < product (sizes_in o)) (values : List ℕ) (stand : take (count_in o) values ≡ combination (sizes_in o) r) where

@@ -1,7 +1,7 @@
 // The cut table of a function.
-ghost use Rattle.std.specs.Prelude.{◌≡◌, cond, length};
+ghost use Rattle.std.specs.Prelude.{◌≡◌, ℕ, ◌+◌, ◌-◌, ◌<◌, ◌≤◌, cond, length};
 ghost use Rattle.theory.specs.Problem.{product};
-ghost use Rattle.messages.specs.Places.{sizes_in, CutWords};
+ghost use Rattle.messages.specs.Places.{count_in, place_in, sizes_in, cut_index, CutTo, CutWords};
 
 use crate::places::Places;
 use scale::Scale;
@@ -17,20 +17,68 @@ fn lower<V: Scale>(old: u32, new: u32) -> u32
     }
 }
 
-// Lays the cut table of a function over the words, in one walk over its table. An index comes after the one with 0 at its removed places, which begins anew.
-pub(crate) fn lay_cut<V: Scale>(places: &Places, table: &[u32], words: &mut [u32])
+// Lays a row of a table whose last place is kept, over the words from `key` on. It begins anew where it is the first of its rows.
+fn lay_along<V: Scale>(places: &Places, table: &[u32], at: usize, key: usize, words: &mut [u32])
     requires table { length table.now ≡ product (sizes_in places.now) }
     requires words { length words.old ≡ length table.now }
+    requires some { 0 < count_in places.now }
+    requires row { at + (place_in places.now (count_in places.now - 1)).size ≤ length table.now }
+    requires inside { key + (place_in places.now (count_in places.now - 1)).size ≤ length table.now }
+    requires keys { (x : ℕ) → x < (place_in places.now (count_in places.now - 1)).size → cut_index places.now (at + x) ≡ key + x }
+    requires laid { CutTo V.Scale.rules places.now table.now at words.old }
+    ensures { CutTo V.Scale.rules places.now table.now (at + (place_in places.now (count_in places.now - 1)).size) words.new }
+{
+    for x in 0..places.last().size {
+        let word = table[at + x];
+        words[key + x] = if key == at {
+            word
+        } else {
+            lower::<V>(words[key + x], word)
+        };
+    }
+}
+
+// Lays one whose last place is removed, over the word at `key`.
+fn lay_lowest<V: Scale>(places: &Places, table: &[u32], at: usize, key: usize, words: &mut [u32])
+    requires table { length table.now ≡ product (sizes_in places.now) }
+    requires words { length words.old ≡ length table.now }
+    requires some { 0 < count_in places.now }
+    requires row { at + (place_in places.now (count_in places.now - 1)).size ≤ length table.now }
+    requires inside { key < length table.now }
+    requires keys { (x : ℕ) → x < (place_in places.now (count_in places.now - 1)).size → cut_index places.now (at + x) ≡ key }
+    requires laid { CutTo V.Scale.rules places.now table.now at words.old }
+    ensures { CutTo V.Scale.rules places.now table.now (at + (place_in places.now (count_in places.now - 1)).size) words.new }
+{
+    let mut low = if key == at {
+        table[at]
+    } else {
+        lower::<V>(words[key], table[at])
+    };
+    for x in 1..places.last().size {
+        low = lower::<V>(low, table[at + x]);
+    }
+    words[key] = low;
+}
+
+// Lays the cut table of a function over the words, row by row of its table. A row comes after the one with 0 at its removed places, which begins anew.
+pub(crate) fn lay_cut<V: Scale>(places: &Places, table: &[u32], words: &mut [u32])
+    requires table { length table.now ≡ product (sizes_in places.now) }
+    requires small { length table.now ≤ 1024 }
+    requires words { length words.old ≡ length table.now }
+    requires some { 0 < count_in places.now }
     ensures { CutWords V.Scale.rules places.now table.now words.new }
 {
-    let mut values = places.combination(0);
-    for (at, word) in table.iter().enumerate() {
-        let key = places.cut_index(&values);
-        words[key] = if key == at {
-            *word
+    let outer = places.outer();
+    let last = places.last();
+    let mut values = outer.combination(0);
+    for number in 0..table.len() / last.size {
+        let at = number * last.size;
+        let key = outer.cut_index(&values) * last.size;
+        if last.kept {
+            lay_along::<V>(places, table, at, key, words);
         } else {
-            lower::<V>(words[key], *word)
-        };
-        places.advance(&mut values);
+            lay_lowest::<V>(places, table, at, key, words);
+        }
+        outer.advance(&mut values);
     }
 }

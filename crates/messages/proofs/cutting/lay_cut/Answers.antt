@@ -1,51 +1,80 @@
-use Rattle.std.proofs.Common.{◌≡◌, ℕ, ◌+◌, ◌<◌, ◌≤◌, cond, List, length, get_or, set, sym, refl, ap, ◌∙◌, subst, inl, inr, arith}
-use Rattle.std.proofs.lemmas.List.{get_or_default}
-use Rattle.theory.specs.Problem.{product, index}
-use Rattle.messages.specs.Combinations.{cleared}
-use Rattle.messages.specs.Places.{sizes_in, place_in, cut_index}
-use Rattle.messages.proofs.Combining.{key_low, key_twice}
-use Rattle.messages.proofs.Lowering.{Lows, lows_step}
+use Rattle.std.proofs.Common.{◌≡◌, ℕ, ◌+◌, ◌-◌, ◌*◌, ◌/◌, ◌<◌, ◌≤◌, length, sym, ap, ◌∙◌, subst, add-mul, arith}
+use Rattle.std.proofs.lemmas.Bool.{cond-true, cond-false}
+use Rattle.theory.specs.Problem.{product}
+use Rattle.messages.specs.declared.place.Place.{Place}
+use Rattle.messages.specs.Places.{count_in, place_in, sizes_in, cut_index, CutTo}
+use Rattle.messages.proofs.Rows.{key_of, key_there, row_known, rows_count, rows_words, row_inside}
 use Rattle.messages.proofs.cutting.lay_cut.Goals as goal
-use Rattle.messages.proofs.cutting.lay_cut.Goals.{then-key-at, else-key-at}
+use Rattle.messages.proofs.cutting.lay_cut.Goals.{then-last, else-last}
 
-pub loop-at-preserved : goal.loop-at-preserved
-loop-at-preserved g c =
+pub overflow_mul-key : goal.overflow_mul-key
+overflow_mul-key g c =
+    let end = row_inside c.args.places.now c.outer-outer.result c.outer-outer.ensures c.last-last.result c.last-last.ensures (length c.args.table.now) c.requires.table c.cut_index.result c.cut_index.ensures.inside in
+    record { fits = omega (arith, end, c.requires.small) }
+
+pub lay_along-requires-clause-inside : goal.lay_along-requires-clause-inside
+lay_along-requires-clause-inside g c =
+    subst (λ (a : Place). c.cut_index.result * c.last-last.result.size + a.size ≤ length c.args.table.now) c.last-last.ensures
+    (row_inside c.args.places.now c.outer-outer.result c.outer-outer.ensures c.last-last.result c.last-last.ensures (length c.args.table.now) c.requires.table c.cut_index.result c.cut_index.ensures.inside)
+
+pub lay_along-requires-clause-keys : goal.lay_along-requires-clause-keys
+lay_along-requires-clause-keys g c = λ x under.
+    let s = c.args.places.now in
+    let o = c.outer-outer.result in
+    let last = c.last-last.result in
+    let r = c.loop-number.number in
+    let low = row_known r _ (product (sizes_in o)) c.loop-number-test.true (rows_count s o c.outer-outer.ensures last c.last-last.ensures (length c.args.table.now) c.requires.table) in
+    let stand = c.loop-number.invariant.1 low in
+    key_there s o c.outer-outer.ensures last c.last-last.ensures r low c.loop-number.values stand x (subst (λ (a : Place). x < a.size) (sym c.last-last.ensures) under)
+    ∙ ap (λ (k : ℕ). cut_index o r * last.size + k) (cond-true last.kept x 0 c.if-last.true)
+    ∙ ap (λ (k : ℕ). k * last.size + x) (sym (key_of o r c.loop-number.values stand c.cut_index.ensures.value))
+
+pub lay_lowest-requires-clause-inside : goal.lay_lowest-requires-clause-inside
+lay_lowest-requires-clause-inside g c =
+    let s = c.args.places.now in
+    let some = subst (λ (a : Place). 1 ≤ a.size) (sym c.last-last.ensures) (s.small (count_in s - 1) (omega (arith, c.requires.some))).1 in
+    omega (arith, some, row_inside s c.outer-outer.result c.outer-outer.ensures c.last-last.result c.last-last.ensures (length c.args.table.now) c.requires.table c.cut_index.result c.cut_index.ensures.inside)
+
+pub lay_lowest-requires-clause-keys : goal.lay_lowest-requires-clause-keys
+lay_lowest-requires-clause-keys g c = λ x under.
+    let s = c.args.places.now in
+    let o = c.outer-outer.result in
+    let last = c.last-last.result in
+    let r = c.loop-number.number in
+    let low = row_known r _ (product (sizes_in o)) c.loop-number-test.true (rows_count s o c.outer-outer.ensures last c.last-last.ensures (length c.args.table.now) c.requires.table) in
+    let stand = c.loop-number.invariant.1 low in
+    let key = key_of o r c.loop-number.values stand c.cut_index.ensures.value in
+    let zero = cond-false last.kept x 0 c.if-last.false in
+    omega (
+      arith,
+      zero,
+      ap (λ (k : ℕ). k * last.size) key,
+      key_there s o c.outer-outer.ensures last c.last-last.ensures r low c.loop-number.values stand x (subst (λ (a : Place). x < a.size) (sym c.last-last.ensures) under),
+    )
+
+pub loop-number-preserved : goal.loop-number-preserved
+loop-number-preserved g c =
     let v = g.V.Scale in
     let s = c.args.places.now in
-    let test = λ (p : ℕ). (place_in s p).kept in
-    let i = c.loop-at.at in
-    let words = c.loop-at.words in
-    let new = get_or c.args.table.now i 0 in
-    let read = λ (j : ℕ). v.rules.reads (get_or c.args.table.now j 0) in
-    let inside : i < product (sizes_in s) = omega (arith, c.requires.table, c.loop-at-test.true) in
-    let stand = c.loop-at.invariant.1 inside in
-    let key_is : c.cut_index-key.result ≡ cut_index s i = c.cut_index-key.ensures.value ∙ ap (λ (xs : List ℕ). index (sizes_in s) (cleared test xs)) stand in
-    let low : cut_index s i ≤ i = key_low test (sizes_in s) i inside in (
-      subst (λ (n : ℕ). Lows v.rules g.met.V.Scale.laws v.rules.reads (cut_index s) read (i + 1) (set words n c.if-key-at.words)) (sym key_is)
-          (lows_step v.rules g.met.V.Scale.laws v.rules.reads (cut_index s) read i words new c.if-key-at.words
-          (omega (arith, c.requires.words, c.loop-at.auto.words))
-          (key_low test (sizes_in s) i inside)
-          (key_twice test (sizes_in s) i inside)
-          (λ j h. key_low test (sizes_in s) j (omega arith))
-          c.loop-at.invariant.0
-          refl
-          (elim c.if-key-at.branch [
-            | then-key-at w ↦ inl (sym key_is ∙ w.if-key-at.true, w.words-is)
-            | else-key-at w ↦ inr (
-              λ e. w.if-key-at.false (key_is ∙ e),
-              λ d.
-                  let old = get_or_default words c.cut_index-key.result 0 d (omega (arith, c.requires.words, c.loop-at.auto.words, low, key_is)) ∙ ap (λ (n : ℕ). get_or words n d) key_is in
-                  w.words-is ∙ w.lower.ensures ∙ ap (λ (o : ℕ). cond (v.rules.leq (v.rules.reads new) (v.rules.reads o)) new o) old,
-            )
-          ])),
-      λ h. c.advance.ensures.next i h stand,
+    let o = c.outer-outer.result in
+    let last = c.last-last.result in
+    let r = c.loop-number.number in
+    let low = row_known r _ (product (sizes_in o)) c.loop-number-test.true (rows_count s o c.outer-outer.ensures last c.last-last.ensures (length c.args.table.now) c.requires.table) in
+    let stand = c.loop-number.invariant.1 low in
+    let behind : r * last.size + (place_in s (count_in s - 1)).size ≡ (r + 1) * last.size = omega (arith, add-mul r 1 last.size, ap (λ (a : Place). a.size) c.last-last.ensures) in
+    let laid : CutTo v.rules s c.args.table.now (r * last.size + (place_in s (count_in s - 1)).size) c.if-last.words = elim c.if-last.branch [
+      | then-last w ↦ subst (CutTo v.rules s c.args.table.now (r * last.size + (place_in s (count_in s - 1)).size)) (sym w.words-is) w.lay_along.ensures
+      | else-last w ↦ subst (CutTo v.rules s c.args.table.now (r * last.size + (place_in s (count_in s - 1)).size)) (sym w.words-is) w.lay_lowest.ensures
+    ] in (
+      subst (λ (i : ℕ). CutTo v.rules s c.args.table.now i c.if-last.words) behind laid,
+      λ h. c.advance.ensures.next r h stand,
       c.advance.ensures.small,
     )
 
 pub returns : goal.returns
 returns g c =
-    let v = g.V.Scale in
     let s = c.args.places.now in
-    let read = λ (j : ℕ). v.rules.reads (get_or c.args.table.now j 0) in
-    let end : c.loop-at.at ≡ length c.args.table.now = omega (arith, c.loop-at-test.false, c.loop-at.auto.at-end) in
-    subst (λ (n : ℕ). Lows v.rules g.met.V.Scale.laws v.rules.reads (cut_index s) read n c.loop-at.words) end c.loop-at.invariant.0
+    let last = c.last-last.result in
+    let all : c.loop-number.number ≡ length c.args.table.now / last.size = omega (arith, c.loop-number-test.false, c.loop-number.auto.number-end) in
+    let end = ap (λ (n : ℕ). n * last.size) all ∙ rows_words s c.outer-outer.result c.outer-outer.ensures last c.last-last.ensures (length c.args.table.now) c.requires.table in
+    subst (λ (i : ℕ). CutTo g.V.Scale.rules s c.args.table.now i c.loop-number.words) end c.loop-number.invariant.0

@@ -9,18 +9,10 @@ use Rattle.messages.specs.Combinations.{combination, cleared}
 use Rattle.messages.specs.Places.{count_in, place_in, sizes_in, cut_index}
 use Rattle.messages.specs.Sent.{variable_cell, function_cell}
 use Rattle.messages.specs.Upward.{BestEntries, OnlyAt}
-use Rattle.messages.proofs.Rows.{one_more_place, outer_place, rows_count, rows_words, parent_there, outer_up, row_at, few_count, none_behind, none_there}
+use Rattle.messages.proofs.Rows.{key_of, row_known, one_more_place, outer_place, rows_count, rows_words, parent_there, outer_up, row_at, few_count, none_behind, none_there}
 use Rattle.messages.proofs.Taking.{best_by, none_counts}
 use Rattle.messages.proofs.entries.best_entries.Goals as goal
 use Rattle.messages.proofs.entries.best_entries.Goals.{then-last, else-last, then-cut_index-number, else-cut_index-number}
-
--- the rows so far are some of all
-row_known : (r rows known : ℕ) → r < rows → rows ≡ known → r < known
-row_known r rows known low is = omega arith
-
--- the key of the row that some values stand at
-key_of : (o : Places) (r : ℕ) (values : List ℕ) → take (count_in o) values ≡ combination (sizes_in o) r → {key : ℕ} → key ≡ index (sizes_in o) (cleared (λ p. (place_in o p).kept) (take (count_in o) values)) → key ≡ cut_index o r
-key_of o r values stand is = is ∙ ap (λ (zs : List ℕ). index (sizes_in o) (cleared (λ p. (place_in o p).kept) zs)) stand
 
 key_is : (o : Places) (r : ℕ) (values : List ℕ) → take (count_in o) values ≡ combination (sizes_in o) r → {key : ℕ} → key ≡ index (sizes_in o) (cleared (λ p. (place_in o p).kept) (take (count_in o) values)) → key ≡ r → cut_index o r ≡ r
 key_is o r values stand is own = sym (key_of o r values stand is) ∙ own
