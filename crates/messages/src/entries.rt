@@ -112,7 +112,38 @@ fn best_across<V: Scale>(
     }
 }
 
-// The same where the parent may be at any place; x is its value along the row, where it has one there.
+// The same where the parent is at another place: all are of its value x.
+fn best_at<V: Scale>(
+    places: &Places,
+    function: usize,
+    cuts: &[u32],
+    row: &Row<V>,
+    x: usize,
+    best: &mut [Option<u16>; ROW],
+    values: &mut Board<V>,
+)
+    requires function { function < 64 }
+    requires cuts { length cuts.now ≡ product (sizes_in places.now) }
+    requires small { length cuts.now ≤ 1024 }
+    requires parent { places.now.parent + 1 < count_in places.now }
+    requires value { x ≡ parent_at places.now row.now.at }
+    requires fits { x < (place_in places.now places.now.parent).size }
+    requires few { x < 16 }
+    requires values { 128 ≤ values.old.rows }
+    requires row { RowAt places.now row.now.at row.now.many }
+    requires up { OuterUp V.Scale.rules V.Scale.means V.Scale.within places.now values.old.cells.now row.now.at row.now.up }
+    requires best { BestEntries V.Scale.rules V.Scale.means V.Scale.within places.now function cuts.now values.old.cells.now row.now.at best.old values.old.cells.now }
+    ensures best { BestEntries V.Scale.rules V.Scale.means V.Scale.within places.now function cuts.now values.old.cells.now (row.now.at + row.now.many) best.new values.new.cells.now }
+    ensures values { OnlyAt (λ k. (x : ℕ) × (x < (place_in places.now places.now.parent).size) × (k ≡ function_cell function x)) values.old.cells.now values.new.cells.now }
+    ensures same { SameLent values.old values.new }
+{
+    let held = (best[x], values.get(MOST_VARIABLES + function, x));
+    let (index, highest) = best_along(places, cuts, row, held, values);
+    best[x] = index;
+    values.put(MOST_VARIABLES + function, x, highest);
+}
+
+// The same wherever the parent is; x is its value along the row, if it is not at the last place.
 fn best_in_row<V: Scale>(
     places: &Places,
     function: usize,
@@ -139,10 +170,7 @@ fn best_in_row<V: Scale>(
     if places.parent + 1 == places.count() {
         best_across(places, function, cuts, row, best, values);
     } else {
-        let held = (best[x], values.get(MOST_VARIABLES + function, x));
-        let (index, value) = best_along(places, cuts, row, held, values);
-        best[x] = index;
-        values.put(MOST_VARIABLES + function, x, value);
+        best_at(places, function, cuts, row, x, best, values);
     }
 }
 
