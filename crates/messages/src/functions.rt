@@ -40,11 +40,12 @@ fn send_entries<V: Scale>(
     write_choices(&best[..size], function, choices);
 }
 
-// The same by its table, where links are removed: lays the cut table first. Apart, since clearing the words for it takes as long as a small function.
+// The same by its table, where links are removed: lays the cut table in the room first.
 fn send_cut<V: Scale>(
     places: &Places,
     function: usize,
     table: &[u32],
+    room: &mut [u32; MOST_IN_TABLE],
     values: &mut Board<V>,
     choices: &mut Board<u16>,
 )
@@ -59,8 +60,7 @@ fn send_cut<V: Scale>(
     ensures choices { OnlyAt (λ k. (x : ℕ) × (x < (place_in places.now places.now.parent).size) × (k ≡ choice_cell function x)) choices.old.cells.now choices.new.cells.now }
     ensures same { SameLent values.old values.new × SameLent choices.old choices.new }
 {
-    let mut words = [0; MOST_IN_TABLE];
-    let cuts = &mut words[..table.len()];
+    let cuts = &mut room[..table.len()];
     lay_cut::<V>(places, table, cuts);
     send_entries(places, function, cuts, values, choices);
 }
@@ -70,6 +70,7 @@ fn send_table<V: Scale>(
     places: &Places,
     function: usize,
     table: &[u32],
+    room: &mut [u32; MOST_IN_TABLE],
     values: &mut Board<V>,
     choices: &mut Board<u16>,
 )
@@ -87,14 +88,16 @@ fn send_table<V: Scale>(
     if places.all_kept() {
         send_entries(places, function, table, values, choices);
     } else {
-        send_cut(places, function, table, values, choices);
+        send_cut(places, function, table, room, values, choices);
     }
 }
 
-// Writes the message of a function, for each value of its parent, and its choices.
+// Writes the message of a function, for each value of its parent, and its choices. The room serves one function after another: clearing one for each would take longer
+// than a small function.
 pub(crate) fn send_function<V: Scale>(
     forest: &RootedForest,
     function: usize,
+    room: &mut [u32; MOST_IN_TABLE],
     values: &mut Board<V>,
     choices: &mut Board<u16>,
 )
@@ -108,11 +111,6 @@ pub(crate) fn send_function<V: Scale>(
     ensures same { SameLent values.old values.new × SameLent choices.old choices.new }
 {
     let places = Places::of(forest.tables, forest.kept, forest.hung, function);
-    send_table(
-        &places,
-        function,
-        forest.tables.table(function),
-        values,
-        choices,
-    );
+    let table = forest.tables.table(function);
+    send_table(&places, function, table, room, values, choices);
 }

@@ -12,11 +12,13 @@ use crate::rooted::RootedForest;
 use crate::variables::send_variable;
 use board::Board;
 use hanging::Node;
+use layout::MOST_IN_TABLE;
 use scale::Scale;
 
 fn send_node<V: Scale>(
     forest: &RootedForest,
     node: Node,
+    room: &mut [u32; MOST_IN_TABLE],
     values: &mut Board<V>,
     choices: &mut Board<u16>,
 )
@@ -32,7 +34,7 @@ fn send_node<V: Scale>(
 {
     match node {
         Node::Variable(v) => send_variable(forest, v, values),
-        Node::Function(f) => send_function(forest, f, values, choices),
+        Node::Function(f) => send_function(forest, f, room, values, choices),
     }
 }
 
@@ -47,8 +49,9 @@ fn send_all<V: Scale>(forest: &RootedForest, values: &mut Board<V>, choices: &mu
     ensures choices { OnlyAt (any_choice_cells (problem_in forest.now) (hanging_in forest.now)) choices.old.cells.now choices.new.cells.now }
     ensures same { SameLent values.old values.new × SameLent choices.old choices.new }
 {
+    let mut room = [0; MOST_IN_TABLE];
     for node in forest.hung.order().iter().rev() {
-        send_node(forest, *node, values, choices);
+        send_node(forest, *node, &mut room, values, choices);
     }
 }
 

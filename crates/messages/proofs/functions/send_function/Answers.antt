@@ -28,11 +28,11 @@ pub send_table-requires : goal.send_table-requires
 send_table-requires g c =
     let forest = c.args.forest.now in
     let f = c.args.function in
-    let table = c.table.result.now in
+    let table = c.table-table.result.now in
     record {
       function = omega (arith, c.requires.function, (within_sizes forest.tables.now).few_functions);
-      table = table_length forest.tables.now (kept_in forest) (hanging_in forest) f c.of-places.result c.of-places.ensures table c.requires.function c.table.ensures;
-      small = table_small forest.tables.now f table c.requires.function c.table.ensures;
+      table = table_length forest.tables.now (kept_in forest) (hanging_in forest) f c.of-places.result c.of-places.ensures table c.requires.function c.table-table.ensures;
+      small = table_small forest.tables.now f table c.requires.function c.table-table.ensures;
       parent = parent_place (problem_in forest) (kept_in forest) (hanging_in forest) f c.of-places.result c.of-places.ensures c.requires.function c.requires.rooted.well;
       values = c.requires.values;
       choices = c.requires.choices;
@@ -55,7 +55,7 @@ returns g c =
       sent = λ cut is_cut m n below.
           let (cuts, long, laid, (row, best, chosen)) = told.sent in
           function_sent v.rules g.met.V.Scale.laws v.means v.within P (within_sizes forest.tables.now) kept H c.requires.rooted.well f c.requires.function s of cuts
-          (subst (λ (table : List ℕ). CutWords v.rules s table cuts) c.table.ensures laid) (long ∙ ap length c.table.ensures) cut is_cut m n c.args.values.now.cells.now below
+          (subst (λ (table : List ℕ). CutWords v.rules s table cuts) c.table-table.ensures laid) (long ∙ ap length c.table-table.ensures) cut is_cut m n c.args.values.now.cells.now below
           row after.cells.now c.send_table.new.choices.cells.now (let whole = after.whole in omega (arith, told.same.0.rows, c.requires.values)) best
           (subst (λ (n : ℕ). Chosen (take n row) f c.send_table.new.choices.cells.now) wide chosen);
       values = subst (λ (n : ℕ). OnlyAt (λ k. (x : ℕ) × (x < n) × (k ≡ function_cell f x)) c.args.values.now.cells.now after.cells.now) wide told.values;
