@@ -67,6 +67,7 @@ send_node-requires g c =
     record {
       known = subst (Known P) (sym is) (order.only q below);
       rooted = c.requires.rooted;
+      parents = c.parents-parents.ensures;
       values = omega (arith, inv.3.rows, c.requires.values);
       choices = omega (arith, inv.4.rows, c.requires.choices);
       neutral = λ k low here d.

@@ -22,6 +22,7 @@ send_variable-requires g c =
     record {
       variable = known;
       rooted = c.requires.rooted;
+      parents = c.requires.parents;
       values = c.requires.values;
       neutral = λ k (x, low, e).
           let cell = subst (λ b. (k : ℕ) → k < 1024 → node_cells P H b k → Holds v.means v.within c.args.values.now.cells.now k v.rules.neutral 0) c.in-Variable.is c.requires.neutral in

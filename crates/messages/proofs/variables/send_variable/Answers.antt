@@ -1,5 +1,5 @@
 use Rattle.std.proofs.Common.{◌≡◌, ℕ, ◌+◌, ◌<◌, ◌≤◌, true, false, eqb, List, get_or, sym, refl, ap, ◌∙◌, subst, arith}
-use Rattle.std.proofs.lemmas.Bool.{eqb-true}
+use Rattle.std.proofs.lemmas.Bool.{eq-eqb, eqb-true, ne_eqb}
 use Rattle.board.specs.SameLent.{SameLent}
 use Rattle.board.proofs.SameLent.{same_self, same_both}
 use Rattle.theory.specs.Forest.{above}
@@ -17,7 +17,7 @@ use Rattle.joining.proofs.Counting.{joins_mono}
 use Rattle.messages.proofs.Counting.{q_few}
 use Rattle.joining.proofs.Joining.{started, stands_for, next_joined, next_passed, when_true, when_false}
 use Rattle.messages.proofs.variables.send_variable.Goals as goal
-use Rattle.messages.proofs.variables.send_variable.Goals.{then-hangs_under, else-hangs_under}
+use Rattle.messages.proofs.variables.send_variable.Goals.{then-parents-function, else-parents-function}
 
 pub loop-function-init : goal.loop-function-init
 loop-function-init g c =
@@ -32,13 +32,6 @@ loop-function-init g c =
       λ k d apart. refl,
       same_self c.args.values.now,
     )
-
-pub hangs_under-requires : goal.hangs_under-requires
-hangs_under-requires g c =
-    let forest = c.args.forest.now in
-    let t = forest.tables.now in
-    let known : c.loop-function.function < functions (problem_in forest) = omega (arith, c.loop-function-test.true, c.functions-function-end.ensures, functions_length (domains_of t.layout) (scopes_of t.layout) t.words) in
-    record { function = known; rooted = c.requires.rooted }
 
 pub join_row-requires : goal.join_row-requires
 unfolding size
@@ -70,9 +63,9 @@ loop-function-preserved g c =
     let cells = c.loop-function.values.cells.now in
     let known : i < functions P = omega (arith, c.loop-function-test.true, c.functions-function-end.ensures, functions_length (domains_of t.layout) (scopes_of t.layout) t.words) in
     let wide : get_or c.domains.result.now u 0 ≡ size P u = ap (λ (ds : List ℕ). get_or ds u 0) c.domains.ensures in
-    elim c.if-hangs_under.branch [
-      | then-hangs_under w ↦
-          let on : eqb (above P H i) u ≡ true = sym w.if-hangs_under.ensures in
+    elim c.if-parents-function.branch [
+      | then-parents-function w ↦
+          let on : eqb (above P H i) u ≡ true = eq-eqb (above P H i) u (sym (c.requires.parents i known) ∙ w.if-parents-function.true) in
           let told = w.join_row.ensures in
           let after = w.join_row.new.values in (
             λ cut m n below x h d.
@@ -92,8 +85,8 @@ loop-function-preserved g c =
                 (λ k d apart. told.values k d (λ (x, low, is). apart (x, subst (λ (s : ℕ). x < s) wide low, is)) ∙ inv.1 k d apart),
             subst (SameLent c.args.values.now) (sym w.values-is) (same_both inv.2 told.same),
           )
-      | else-hangs_under w ↦
-          let off : eqb (above P H i) u ≡ false = sym w.if-hangs_under.ensures in (
+      | else-parents-function w ↦
+          let off : eqb (above P H i) u ≡ false = ne_eqb (above P H i) u (λ e. w.if-parents-function.false (c.requires.parents i known ∙ e)) in (
             λ cut m n below x h d.
                 let e : ℕ → v.Exact = λ f. when v.rules (eqb (above P H f) u) (m.r f x) in
                 let k : ℕ → ℕ = λ f. when counts (eqb (above P H f) u) (n.r f x) in
