@@ -193,14 +193,13 @@ pub(crate) fn best_entries<V: Scale>(
 {
     let outer = places.outer();
     let last = places.last();
-    let many = if last.kept { last.size } else { 1 };
     let mut best = [None; ROW];
     let mut combination = outer.combination(0);
     for number in 0..cuts.len() / last.size {
         if outer.cut_index(&combination) == number {
             let row = Row {
                 at: number * last.size,
-                many,
+                many: last.counted(),
                 up: from_below(&outer, values, &combination),
             };
             let x = combination[places.parent];

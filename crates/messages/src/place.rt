@@ -1,3 +1,6 @@
+// What a function's messages see of its places.
+ghost use Rattle.std.specs.Prelude.{◌≡◌, cond};
+
 // What is known of a place of a function as its messages are made.
 #[derive(Clone, Copy)]
 pub struct Place {
@@ -8,4 +11,13 @@ pub struct Place {
     pub kept: bool,
     // Whether the variable hangs from the function.
     pub below: bool,
+}
+
+impl Place {
+    // How many of its values stand in the cut table: all, or 0 alone where the link is removed.
+    pub(crate) fn counted(&self) -> usize
+        ensures { result ≡ cond self.now.kept self.now.size 1 }
+    {
+        if self.kept { self.size } else { 1 }
+    }
 }

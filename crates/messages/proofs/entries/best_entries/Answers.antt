@@ -1,5 +1,4 @@
-use Rattle.std.proofs.Common.{◌≡◌, ℕ, ◌+◌, ◌*◌, ◌/◌, ◌<◌, cond, List, length, get_or, take, Option, sym, ap, ◌∙◌, subst, add-mul, arith}
-use Rattle.std.proofs.lemmas.Bool.{cond-true, cond-false}
+use Rattle.std.proofs.Common.{◌≡◌, ℕ, ◌+◌, ◌*◌, ◌/◌, ◌<◌, List, length, get_or, take, Option, sym, ap, ◌∙◌, subst, add-mul, arith}
 use Rattle.board.specs.SameLent.{SameLent}
 use Rattle.board.proofs.SameLent.{same_both}
 use Rattle.theory.specs.Problem.{product, index}
@@ -12,7 +11,7 @@ use Rattle.messages.specs.Upward.{BestEntries, OnlyAt}
 use Rattle.messages.proofs.Rows.{key_of, row_known, one_more_place, outer_place, rows_count, rows_words, parent_there, outer_up, row_at, few_count, none_behind, none_there}
 use Rattle.messages.proofs.Taking.{best_by, none_counts}
 use Rattle.messages.proofs.entries.best_entries.Goals as goal
-use Rattle.messages.proofs.entries.best_entries.Goals.{then-last, else-last, then-cut_index-number, else-cut_index-number}
+use Rattle.messages.proofs.entries.best_entries.Goals.{then-cut_index-number, else-cut_index-number}
 
 key_is : (o : Places) (r : ℕ) (values : List ℕ) → take (count_in o) values ≡ combination (sizes_in o) r → {key : ℕ} → key ≡ index (sizes_in o) (cleared (λ p. (place_in o p).kept) (take (count_in o) values)) → key ≡ r → cut_index o r ≡ r
 key_is o r values stand is own = sym (key_of o r values stand is) ∙ own
@@ -47,11 +46,7 @@ best_in_row-requires-clause-row g c =
     let r = c.loop-number.number in
     let low = row_known r _ (product (sizes_in o)) c.loop-number-test.true (rows_count s o outer last c.last-last.ensures (length c.args.cuts.now) c.requires.cuts) in
     let stand = c.loop-number.invariant.3 low in
-    let many : c.if-last.many ≡ cond last.kept last.size 1 = elim c.if-last.branch [
-      | then-last w ↦ w.many-is ∙ sym (cond-true last.kept last.size 1 w.if-last.true)
-      | else-last w ↦ w.many-is ∙ sym (cond-false last.kept last.size 1 w.if-last.false)
-    ] in
-    row_at s o outer last c.last-last.ensures r low c.loop-number.combination stand (key_is o r c.loop-number.combination stand c.cut_index.ensures.value c.if-cut_index-number.true) c.if-last.many many
+    row_at s o outer last c.last-last.ensures r low c.loop-number.combination stand (key_is o r c.loop-number.combination stand c.cut_index.ensures.value c.if-cut_index-number.true) c.counted.result c.counted.ensures
 
 pub best_in_row-requires-clause-up : goal.best_in_row-requires-clause-up
 best_in_row-requires-clause-up g c =
@@ -94,20 +89,16 @@ loop-number-preserved g c =
     let next = c.advance.ensures in
     elim c.if-cut_index-number.branch [
       | then-cut_index-number w ↦
-          let many : c.if-last.many ≡ cond last.kept last.size 1 = elim c.if-last.branch [
-            | then-last w ↦ w.many-is ∙ sym (cond-true last.kept last.size 1 w.if-last.true)
-            | else-last w ↦ w.many-is ∙ sym (cond-false last.kept last.size 1 w.if-last.false)
-          ] in
           let own = key_is o r c.loop-number.combination stand c.cut_index.ensures.value w.if-cut_index-number.true in
           let told = w.best_in_row.ensures in
           let cells' = w.best_in_row.new.values.cells.now in
           let best' = w.best_in_row.new.best in
-          let few = few_count s o outer last last_is r low c.loop-number.combination stand own c.if-last.many many in
+          let few = few_count s o outer last last_is r low c.loop-number.combination stand own w.counted.result w.counted.ensures in
           let same = unmoved s f (place_in s s.parent).size before cells inv.1 in
-          let there = best_by v.rules laws v.means v.within s f cuts cells before (λ p x h k d. sym (same p x h k d)) (at + c.if-last.many) best' cells' told.best in
+          let there = best_by v.rules laws v.means v.within s f cuts cells before (λ p x h k d. sym (same p x h k d)) (at + w.counted.result) best' cells' told.best in
           let bests : Bests best' cells' = subst (λ (i : ℕ). BestEntries v.rules v.means v.within s f cuts before i best' cells') behind
-          (none_counts v.rules laws v.means v.within s f cuts before (at + c.if-last.many) (at + last.size) best' cells' (omega arith) there
-          (none_behind s o outer last last_is r low c.loop-number.combination stand own c.if-last.many many)) in (
+          (none_counts v.rules laws v.means v.within s f cuts before (at + w.counted.result) (at + last.size) best' cells' (omega arith) there
+          (none_behind s o outer last last_is r low c.loop-number.combination stand own w.counted.result w.counted.ensures)) in (
             subst (λ b. Bests b c.if-cut_index-number.values.cells.now) (sym w.best-is) (subst (λ b. Bests best' b.cells.now) (sym w.values-is) bests),
             subst (λ b. OnlyAt Row before b.cells.now) (sym w.values-is) (λ k d apart. told.values k d apart ∙ inv.1 k d apart),
             subst (SameLent c.args.values.now) (sym w.values-is) (same_both inv.2 told.same),
