@@ -42,10 +42,6 @@ cleared_push : (test : ℕ → Bool) (xs : List ℕ) (x : ℕ) → cleared test 
 cleared_push test [] x = refl
 cleared_push test (y ∷ xs) x = ap (◌∷◌ (cond (test 0) y 0)) (cleared_push (λ p. test (suc p)) xs x)
 
--- the rows so far are some of all
-pub row_known : (r rows known : ℕ) → r < rows → rows ≡ known → r < known
-row_known r rows known low is = omega arith
-
 -- the key of the row that some values stand at
 pub key_of : (o : Places) (r : ℕ) (values : List ℕ) → take (count_in o) values ≡ combination (sizes_in o) r → {key : ℕ} → key ≡ index (sizes_in o) (cleared (λ p. (place_in o p).kept) (take (count_in o) values)) → key ≡ cut_index o r
 key_of o r values stand is = is ∙ ap (λ (zs : List ℕ). index (sizes_in o) (cleared (λ p. (place_in o p).kept) zs)) stand
@@ -74,8 +70,11 @@ module _ (s o : Places) (outer : OuterOf s o) (last : Place) (is : last ≡ plac
   rows_full = ap product sizes_split ∙ product_push (sizes_in o) last.size
 
   -- how many rows there are
-  pub rows_count : (words : ℕ) → words ≡ product (sizes_in s) → words / last.size ≡ product (sizes_in o)
+  rows_count : (words : ℕ) → words ≡ product (sizes_in s) → words / last.size ≡ product (sizes_in o)
   rows_count words full = ap (λ (n : ℕ). n / last.size) (full ∙ rows_full) ∙ mul-div_cancel (product (sizes_in o)) some_value
+
+  pub row_below : (words : ℕ) → words ≡ product (sizes_in s) → (r : ℕ) → r < words / last.size → r < product (sizes_in o)
+  row_below words full r low = omega (arith, rows_count words full)
 
   pub rows_words : (words : ℕ) → words ≡ product (sizes_in s) → words / last.size * last.size ≡ words
   rows_words words full = ap (λ (n : ℕ). n * last.size) (rows_count words full) ∙ sym (full ∙ rows_full)

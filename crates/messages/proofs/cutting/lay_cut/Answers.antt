@@ -1,9 +1,8 @@
 use Rattle.std.proofs.Common.{◌≡◌, ℕ, ◌+◌, ◌-◌, ◌*◌, ◌/◌, ◌<◌, ◌≤◌, length, sym, ap, ◌∙◌, subst, add-mul, arith}
 use Rattle.std.proofs.lemmas.Bool.{cond-true, cond-false}
-use Rattle.theory.specs.Problem.{product}
 use Rattle.messages.specs.declared.place.Place.{Place}
-use Rattle.messages.specs.Places.{count_in, place_in, sizes_in, cut_index, CutTo}
-use Rattle.messages.proofs.Rows.{key_of, key_there, row_known, rows_count, rows_words, row_inside}
+use Rattle.messages.specs.Places.{count_in, place_in, cut_index, CutTo}
+use Rattle.messages.proofs.Rows.{key_of, key_there, row_below, rows_words, row_inside}
 use Rattle.messages.proofs.cutting.lay_cut.Goals as goal
 use Rattle.messages.proofs.cutting.lay_cut.Goals.{then-last, else-last}
 
@@ -23,7 +22,7 @@ lay_along-requires-clause-keys g c = λ x under.
     let o = c.outer-outer.result in
     let last = c.last-last.result in
     let r = c.loop-number.number in
-    let low = row_known r _ (product (sizes_in o)) c.loop-number-test.true (rows_count s o c.outer-outer.ensures last c.last-last.ensures (length c.args.table.now) c.requires.table) in
+    let low = row_below s o c.outer-outer.ensures last c.last-last.ensures (length c.args.table.now) c.requires.table r c.loop-number-test.true in
     let stand = c.loop-number.invariant.1 low in
     key_there s o c.outer-outer.ensures last c.last-last.ensures r low c.loop-number.values stand x (subst (λ (a : Place). x < a.size) (sym c.last-last.ensures) under)
     ∙ ap (λ (k : ℕ). cut_index o r * last.size + k) (cond-true last.kept x 0 c.if-last.true)
@@ -41,7 +40,7 @@ lay_lowest-requires-clause-keys g c = λ x under.
     let o = c.outer-outer.result in
     let last = c.last-last.result in
     let r = c.loop-number.number in
-    let low = row_known r _ (product (sizes_in o)) c.loop-number-test.true (rows_count s o c.outer-outer.ensures last c.last-last.ensures (length c.args.table.now) c.requires.table) in
+    let low = row_below s o c.outer-outer.ensures last c.last-last.ensures (length c.args.table.now) c.requires.table r c.loop-number-test.true in
     let stand = c.loop-number.invariant.1 low in
     let key = key_of o r c.loop-number.values stand c.cut_index.ensures.value in
     let zero = cond-false last.kept x 0 c.if-last.false in
@@ -59,7 +58,7 @@ loop-number-preserved g c =
     let o = c.outer-outer.result in
     let last = c.last-last.result in
     let r = c.loop-number.number in
-    let low = row_known r _ (product (sizes_in o)) c.loop-number-test.true (rows_count s o c.outer-outer.ensures last c.last-last.ensures (length c.args.table.now) c.requires.table) in
+    let low = row_below s o c.outer-outer.ensures last c.last-last.ensures (length c.args.table.now) c.requires.table r c.loop-number-test.true in
     let stand = c.loop-number.invariant.1 low in
     let behind : r * last.size + (place_in s (count_in s - 1)).size ≡ (r + 1) * last.size = omega (arith, add-mul r 1 last.size, ap (λ (a : Place). a.size) c.last-last.ensures) in
     let laid : CutTo v.rules s c.args.table.now (r * last.size + (place_in s (count_in s - 1)).size) c.if-last.words = elim c.if-last.branch [

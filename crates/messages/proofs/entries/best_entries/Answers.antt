@@ -1,14 +1,14 @@
 use Rattle.std.proofs.Common.{◌≡◌, ℕ, ◌+◌, ◌*◌, ◌/◌, ◌<◌, List, length, get_or, take, Option, sym, ap, ◌∙◌, subst, add-mul, arith}
 use Rattle.board.specs.SameLent.{SameLent}
 use Rattle.board.proofs.SameLent.{same_both}
-use Rattle.theory.specs.Problem.{product, index}
+use Rattle.theory.specs.Problem.{index}
 use Rattle.messages.specs.declared.place.Place.{Place}
 use Rattle.messages.specs.declared.places.Places.{Places}
 use Rattle.messages.specs.Combinations.{combination, cleared}
 use Rattle.messages.specs.Places.{count_in, place_in, sizes_in, cut_index}
 use Rattle.messages.specs.Sent.{variable_cell, function_cell}
 use Rattle.messages.specs.Upward.{BestEntries, OnlyAt}
-use Rattle.messages.proofs.Rows.{key_of, row_known, one_more_place, outer_place, rows_count, rows_words, parent_there, outer_up, row_at, few_count, none_behind, none_there}
+use Rattle.messages.proofs.Rows.{key_of, row_below, one_more_place, outer_place, rows_words, parent_there, outer_up, row_at, few_count, none_behind, none_there}
 use Rattle.messages.proofs.Taking.{best_by, none_counts}
 use Rattle.messages.proofs.entries.best_entries.Goals as goal
 use Rattle.messages.proofs.entries.best_entries.Goals.{then-cut_index-number, else-cut_index-number}
@@ -26,7 +26,7 @@ best_in_row-requires-clause-value g c =
     let s = c.args.places.now in
     let o = c.outer-outer.result in
     let r = c.loop-number.number in
-    let low = row_known r _ (product (sizes_in o)) c.loop-number-test.true (rows_count s o c.outer-outer.ensures c.last-last.result c.last-last.ensures (length c.args.cuts.now) c.requires.cuts) in
+    let low = row_below s o c.outer-outer.ensures c.last-last.result c.last-last.ensures (length c.args.cuts.now) c.requires.cuts r c.loop-number-test.true in
     parent_there s o c.outer-outer.ensures c.last-last.result c.last-last.ensures r low c.loop-number.combination (c.loop-number.invariant.3 low)
 
 pub best_in_row-requires-clause-fits : goal.best_in_row-requires-clause-fits
@@ -44,7 +44,7 @@ best_in_row-requires-clause-row g c =
     let outer = c.outer-outer.ensures in
     let last = c.last-last.result in
     let r = c.loop-number.number in
-    let low = row_known r _ (product (sizes_in o)) c.loop-number-test.true (rows_count s o outer last c.last-last.ensures (length c.args.cuts.now) c.requires.cuts) in
+    let low = row_below s o outer last c.last-last.ensures (length c.args.cuts.now) c.requires.cuts r c.loop-number-test.true in
     let stand = c.loop-number.invariant.3 low in
     row_at s o outer last c.last-last.ensures r low c.loop-number.combination stand (key_is o r c.loop-number.combination stand c.cut_index.ensures.value c.if-cut_index-number.true) c.counted.result c.counted.ensures
 
@@ -54,7 +54,7 @@ best_in_row-requires-clause-up g c =
     let s = c.args.places.now in
     let o = c.outer-outer.result in
     let r = c.loop-number.number in
-    let low = row_known r _ (product (sizes_in o)) c.loop-number-test.true (rows_count s o c.outer-outer.ensures c.last-last.result c.last-last.ensures (length c.args.cuts.now) c.requires.cuts) in
+    let low = row_below s o c.outer-outer.ensures c.last-last.result c.last-last.ensures (length c.args.cuts.now) c.requires.cuts r c.loop-number-test.true in
     outer_up s o c.outer-outer.ensures c.last-last.result c.last-last.ensures r low c.loop-number.combination (c.loop-number.invariant.3 low) v.rules v.means v.within c.loop-number.values.cells.now c.from_below.result c.from_below.ensures
 
 pub best_in_row-requires-clause-best : goal.best_in_row-requires-clause-best
@@ -77,7 +77,7 @@ loop-number-preserved g c =
     let last = c.last-last.result in
     let last_is = c.last-last.ensures in
     let r = c.loop-number.number in
-    let low = row_known r _ (product (sizes_in o)) c.loop-number-test.true (rows_count s o outer last last_is (length cuts) c.requires.cuts) in
+    let low = row_below s o outer last last_is (length cuts) c.requires.cuts r c.loop-number-test.true in
     let inv = c.loop-number.invariant in
     let stand = inv.3 low in
     let before = c.args.values.now.cells.now in
