@@ -1,3 +1,5 @@
 pub mod Above
+pub mod Cells
 pub mod Copying
 pub mod Solving
+pub mod Words

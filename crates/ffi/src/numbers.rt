@@ -1,4 +1,5 @@
 // The figures of a report as plain numbers.
+ghost use Rattle.std.specs.Prelude.{◌≡◌, ◌<◌, slice_index};
 ghost use Rattle.solving.specs.Report.{figures_of};
 ghost use Rattle.ffi.specs.Reports.{Tells};
 
@@ -25,15 +26,25 @@ pub struct Figures {
     pub ceiling_second: i32,
 }
 
-// The word of kept links that begins with this number.
-fn word_from(links: &Links, first: usize) -> u64 {
+// The word with this number of a set of links.
+fn word_of(links: &Links, number: usize) -> u64
+    requires { number < 4 }
+    ensures { result ≡ slice_index links.now.words number }
+{
     let mut word = 0;
     for bit in 0..64 {
-        if links.holds(first.saturating_add(bit)) {
+        if links.holds(64 * number + bit) {
             word |= 1 << bit;
         }
     }
     word
+}
+
+// The four words of a set of links.
+fn words_of(links: &Links) -> [u64; 4]
+    ensures { result ≡ links.now.words }
+{
+    array::from_fn(|number| word_of(links, number))
 }
 
 // The figures of a report.
@@ -46,7 +57,7 @@ pub(crate) fn shown_figures<V: Scale>(report: &Report<V>) -> Figures
     let (ceiling_first, ceiling_second) = report.ceiling.show();
     Figures {
         plan: report.plan,
-        kept: array::from_fn(|k| word_from(&report.kept, k.saturating_mul(64))),
+        kept: words_of(&report.kept),
         share: report.share,
         kept_count: report.kept_count,
         tree_first,

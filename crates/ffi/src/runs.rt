@@ -4,76 +4,22 @@ ghost use Rattle.scale.specs.Levels.{capped, weakest};
 ghost use Rattle.scale.specs.Points.{points};
 ghost use Rattle.scale.specs.Ranks.{ranked};
 ghost use Rattle.theory.specs.KeptBy.{straight, bounded};
+ghost use Rattle.file.specs.Tests.{file_tests};
 ghost use Rattle.inspection.specs.Describing.{NoScale};
 ghost use Rattle.ffi.specs.Answers.{Told};
 ghost use Rattle.ffi.specs.Reports.{run_tests, Shows};
 
-use crate::bounded_runs::run_bounded;
 use crate::numbers::Figures;
-use crate::straight_runs::run_straight;
+use crate::solves::run;
 use crate::telling::told;
+use crate::ways::{Bounded, Straight};
 use inspection::Kind;
 use scale::{Capped, Points, Ranked, Scale, Weakest};
 use solving::VALUE_CELLS;
 
-fn solve_points(
-    bytes: &[u8],
-    times: u32,
-    choices: &mut [u16],
-    shown: &mut [i32],
-    place: &mut Figures,
-) -> u64
-    requires { 4608 ≤ length shown.old }
-    ensures { 1 ≤ times → Told (run_tests points bounded bytes.now (length choices.old)) result ((result ≡ 0) × Shows points bounded bytes.now place.new choices.new) (place.new ≡ place.old) }
-{
-    let mut values = [Points::neutral(); VALUE_CELLS];
-    run_bounded(bytes, times, &mut values, choices, shown, place)
-}
-
-fn solve_capped(
-    bytes: &[u8],
-    times: u32,
-    choices: &mut [u16],
-    shown: &mut [i32],
-    place: &mut Figures,
-) -> u64
-    requires { 4608 ≤ length shown.old }
-    ensures { 1 ≤ times → Told (run_tests capped bounded bytes.now (length choices.old)) result ((result ≡ 0) × Shows capped bounded bytes.now place.new choices.new) (place.new ≡ place.old) }
-{
-    let mut values = [Capped::neutral(); VALUE_CELLS];
-    run_bounded(bytes, times, &mut values, choices, shown, place)
-}
-
-fn solve_ranked(
-    bytes: &[u8],
-    times: u32,
-    choices: &mut [u16],
-    shown: &mut [i32],
-    place: &mut Figures,
-) -> u64
-    requires { 4608 ≤ length shown.old }
-    ensures { 1 ≤ times → Told (run_tests ranked bounded bytes.now (length choices.old)) result ((result ≡ 0) × Shows ranked bounded bytes.now place.new choices.new) (place.new ≡ place.old) }
-{
-    let mut values = [Ranked::neutral(); VALUE_CELLS];
-    run_bounded(bytes, times, &mut values, choices, shown, place)
-}
-
-fn solve_weakest(
-    bytes: &[u8],
-    times: u32,
-    choices: &mut [u16],
-    shown: &mut [i32],
-    place: &mut Figures,
-) -> u64
-    requires { 4608 ≤ length shown.old }
-    ensures { 1 ≤ times → Told (run_tests weakest straight bytes.now (length choices.old)) result ((result ≡ 0) × Shows weakest straight bytes.now place.new choices.new) (place.new ≡ place.old) }
-{
-    let mut values = [Weakest::neutral(); VALUE_CELLS];
-    run_straight(bytes, times, &mut values, choices, shown, place)
-}
-
-// Reads a file in the scale of this code and solves its problem `times` times over: straight for code 4, bounded for the others. The choice
-// store is lent; what each cell of the value store shows is written as two numbers. Answers 0, or 2^32 times the number of the refusal and its place.
+// Reads a file in the scale of this code once, and solves its problem `times` times over: straight for code 4, bounded for the others. Fills the
+// choice store, of 1,024 cells, and writes the figures to `place` and the two numbers of each cell of the value store to `shown`, which has 4,608.
+// Answers 0, or as reading does; what is declined, or solved no time, is left as it was.
 #[unsafe(no_mangle)]
 pub extern "C" fn engine_solve(
     code: u16,
@@ -83,18 +29,50 @@ pub extern "C" fn engine_solve(
     shown: &mut [i32],
     place: &mut Figures,
 ) -> u64
-    requires { 4608 ≤ length shown.old }
-    ensures points { code ≡ 1 → 1 ≤ times → Told (run_tests points bounded bytes.now (length choices.old)) result ((result ≡ 0) × Shows points bounded bytes.now place.new choices.new) (place.new ≡ place.old) }
-    ensures capped { code ≡ 2 → 1 ≤ times → Told (run_tests capped bounded bytes.now (length choices.old)) result ((result ≡ 0) × Shows capped bounded bytes.now place.new choices.new) (place.new ≡ place.old) }
-    ensures ranked { code ≡ 3 → 1 ≤ times → Told (run_tests ranked bounded bytes.now (length choices.old)) result ((result ≡ 0) × Shows ranked bounded bytes.now place.new choices.new) (place.new ≡ place.old) }
-    ensures weakest { code ≡ 4 → 1 ≤ times → Told (run_tests weakest straight bytes.now (length choices.old)) result ((result ≡ 0) × Shows weakest straight bytes.now place.new choices.new) (place.new ≡ place.old) }
+    ensures points { code ≡ 1 → 1 ≤ times → Told (run_tests points bounded bytes.now (length choices.old) (length shown.old)) result ((result ≡ 0) × Shows points bounded bytes.now place.new choices.new shown.new) ((place.new ≡ place.old) × (choices.new ≡ choices.old) × (shown.new ≡ shown.old)) }
+    ensures capped { code ≡ 2 → 1 ≤ times → Told (run_tests capped bounded bytes.now (length choices.old) (length shown.old)) result ((result ≡ 0) × Shows capped bounded bytes.now place.new choices.new shown.new) ((place.new ≡ place.old) × (choices.new ≡ choices.old) × (shown.new ≡ shown.old)) }
+    ensures ranked { code ≡ 3 → 1 ≤ times → Told (run_tests ranked bounded bytes.now (length choices.old) (length shown.old)) result ((result ≡ 0) × Shows ranked bounded bytes.now place.new choices.new shown.new) ((place.new ≡ place.old) × (choices.new ≡ choices.old) × (shown.new ≡ shown.old)) }
+    ensures weakest { code ≡ 4 → 1 ≤ times → Told (run_tests weakest straight bytes.now (length choices.old) (length shown.old)) result ((result ≡ 0) × Shows weakest straight bytes.now place.new choices.new shown.new) ((place.new ≡ place.old) × (choices.new ≡ choices.old) × (shown.new ≡ shown.old)) }
+    ensures read_points { code ≡ 1 → times ≡ 0 → Told (file_tests points bytes.now) result (result ≡ 0) (Unit {0}) }
+    ensures read_capped { code ≡ 2 → times ≡ 0 → Told (file_tests capped bytes.now) result (result ≡ 0) (Unit {0}) }
+    ensures read_ranked { code ≡ 3 → times ≡ 0 → Told (file_tests ranked bytes.now) result (result ≡ 0) (Unit {0}) }
+    ensures read_weakest { code ≡ 4 → times ≡ 0 → Told (file_tests weakest bytes.now) result (result ≡ 0) (Unit {0}) }
+    ensures never { times ≡ 0 → (place.new ≡ place.old) × (choices.new ≡ choices.old) × (shown.new ≡ shown.old) }
     ensures other { NoScale code → (result ≡ 19 * 2 ^ 32) × (place.new ≡ place.old) × (choices.new ≡ choices.old) × (shown.new ≡ shown.old) }
 {
     match Kind::try_from(code) {
-        Ok(Kind::Points) => solve_points(bytes, times, choices, shown, place),
-        Ok(Kind::Capped) => solve_capped(bytes, times, choices, shown, place),
-        Ok(Kind::Ranked) => solve_ranked(bytes, times, choices, shown, place),
-        Ok(Kind::Weakest) => solve_weakest(bytes, times, choices, shown, place),
+        Ok(Kind::Points) => run::<Points, Bounded>(
+            bytes,
+            times,
+            &mut [Points::neutral(); VALUE_CELLS],
+            choices,
+            shown,
+            place,
+        ),
+        Ok(Kind::Capped) => run::<Capped, Bounded>(
+            bytes,
+            times,
+            &mut [Capped::neutral(); VALUE_CELLS],
+            choices,
+            shown,
+            place,
+        ),
+        Ok(Kind::Ranked) => run::<Ranked, Bounded>(
+            bytes,
+            times,
+            &mut [Ranked::neutral(); VALUE_CELLS],
+            choices,
+            shown,
+            place,
+        ),
+        Ok(Kind::Weakest) => run::<Weakest, Straight>(
+            bytes,
+            times,
+            &mut [Weakest::neutral(); VALUE_CELLS],
+            choices,
+            shown,
+            place,
+        ),
         Err(fault) => told(fault),
     }
 }

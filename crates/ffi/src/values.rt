@@ -1,15 +1,17 @@
 // A value store as numbers.
-ghost use Rattle.std.specs.Prelude.{◌≡◌, ◌*◌, ◌≤◌, length};
+ghost use Rattle.std.specs.Prelude.{◌≡◌, ◌*◌, length, map};
+ghost use Rattle.ffi.specs.Reports.{TellsCells};
 
 use scale::Scale;
 
-// What each cell of the value store shows.
+// Writes the two numbers of each cell of a value store, side by side.
 pub(crate) fn show_values<V: Scale>(values: &[V], shown: &mut [i32])
-    requires { 2 * length values.now ≤ length shown.old }
+    requires { length shown.old ≡ 2 * length values.now }
+    ensures { TellsCells V.Scale.rules (map V.Scale.means values.now) shown.new }
 {
-    for (pair, value) in shown.chunks_exact_mut(2).zip(values) {
+    for (n, value) in values.iter().enumerate() {
         let (first, second) = value.show();
-        pair[0] = first;
-        pair[1] = second;
+        shown[2 * n] = first;
+        shown[2 * n + 1] = second;
     }
 }

@@ -57,13 +57,18 @@ fn write_in<V: Scale>(bytes: &[u8], times: u32, out: &mut [u8]) -> u64
     }
 }
 
-// Reads a file in the scale of this code once, and writes it to the front of a buffer, `times` times over. Answers its length, or as reading does.
+// Reads a file in the scale of this code once, and writes it to the front of a buffer, `times` times over. Answers its length, or 0 where `times` is 0,
+// or as reading does.
 #[unsafe(no_mangle)]
 pub extern "C" fn engine_write(code: u16, bytes: &[u8], times: u32, out: &mut [u8]) -> u64
     ensures points { code ≡ 1 → 1 ≤ times → Told (copy_tests points bytes.now out.old) result ((result ≡ length bytes.now) × Copied bytes.now out.old out.new) (out.new ≡ out.old) }
     ensures capped { code ≡ 2 → 1 ≤ times → Told (copy_tests capped bytes.now out.old) result ((result ≡ length bytes.now) × Copied bytes.now out.old out.new) (out.new ≡ out.old) }
     ensures ranked { code ≡ 3 → 1 ≤ times → Told (copy_tests ranked bytes.now out.old) result ((result ≡ length bytes.now) × Copied bytes.now out.old out.new) (out.new ≡ out.old) }
     ensures weakest { code ≡ 4 → 1 ≤ times → Told (copy_tests weakest bytes.now out.old) result ((result ≡ length bytes.now) × Copied bytes.now out.old out.new) (out.new ≡ out.old) }
+    ensures read_points { code ≡ 1 → times ≡ 0 → Told (file_tests points bytes.now) result (result ≡ 0) (Unit {0}) }
+    ensures read_capped { code ≡ 2 → times ≡ 0 → Told (file_tests capped bytes.now) result (result ≡ 0) (Unit {0}) }
+    ensures read_ranked { code ≡ 3 → times ≡ 0 → Told (file_tests ranked bytes.now) result (result ≡ 0) (Unit {0}) }
+    ensures read_weakest { code ≡ 4 → times ≡ 0 → Told (file_tests weakest bytes.now) result (result ≡ 0) (Unit {0}) }
     ensures never { times ≡ 0 → out.new ≡ out.old }
     ensures other { NoScale code → (result ≡ 19 * 2 ^ 32) × (out.new ≡ out.old) }
 {
