@@ -79,10 +79,8 @@ fn engine_write(code: u16, bytes: &[u8], times: u32, out: &mut [u8]) -> u64 {
 }
 
 fn engine_solve(code: u16, bytes: &[u8], times: u32, stores: &mut Stores) -> u64 {
-    // What the engine asks of its caller.
-    assert!(stores.shown.len() >= 2 * VALUES);
     let Stores { choices, shown, figures } = stores;
-    // SAFETY: all are lent for the call, and the length that it asks for was tested.
+    // SAFETY: all are lent for the call.
     unsafe {
         foreign::engine_solve(
             code,
