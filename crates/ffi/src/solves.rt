@@ -47,7 +47,7 @@ fn solve_again<V: Scale, W: Way<V>>(
     Ok(())
 }
 
-// Reads a file, and solves its problem so many times over.
+// Reads a file once, and solves its problem so many times over.
 fn solve_file<V: Scale, W: Way<V>>(
     bytes: &[u8],
     times: u32,
@@ -73,6 +73,7 @@ fn solve_file<V: Scale, W: Way<V>>(
     )
 }
 
+// The same, answered as one number.
 pub(crate) fn run<V: Scale, W: Way<V>>(
     bytes: &[u8],
     times: u32,
