@@ -30,3 +30,24 @@ Means name given (Open code) = (name ≡ codes "open") × AreNumbers given (code
 Means name given (Read path) = (name ≡ codes "read") × (given ≡ path.now ∷ [])
 Means name given (Write path) = (name ≡ codes "write") × (given ≡ path.now ∷ [])
 Means name given (Ask request) = Asks name given request
+
+-- a command to which numbers are given
+abbrev pub TakesNumbers : Command → Type 0
+TakesNumbers (Open code) = Unit {0}
+TakesNumbers (Ask (Variable size)) = Unit {0}
+TakesNumbers (Ask (Function scope)) = Unit {0}
+TakesNumbers (Ask (Weight function place)) = Unit {0}
+TakesNumbers (Ask (Score list)) = Unit {0}
+TakesNumbers _ = ⊥
+
+-- The name and the words after it mean no command.
+pub record MeansNothing (name : List ℕ) (given : List (List ℕ)) : Type 0 where
+  pub no_command : (c : Command) → Means name given c → ⊥
+
+-- The name and the words after it mean no command, or one to which numbers are given.
+pub record MeansAtMostNumbers (name : List ℕ) (given : List (List ℕ)) : Type 0 where
+  pub numbers_alone : (c : Command) → Means name given c → TakesNumbers c
+
+-- The name means no command to which these numbers are given.
+pub record NumbersMeanNothing (name : List ℕ) (ns : List ℕ) : Type 0 where
+  pub no_numbered : (given : List (List ℕ)) → AreNumbers given ns → (c : Command) → Means name given c → TakesNumbers c → ⊥

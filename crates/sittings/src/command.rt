@@ -1,7 +1,7 @@
 // A command, as the words of a line say it.
-ghost use Rattle.std.specs.Prelude.{◌≡◌, ℕ, List, [], ◌∷◌, codes, IfOk, IfSome};
+ghost use Rattle.std.specs.Prelude.{◌≡◌, ℕ, List, [], ◌∷◌, codes, IfOk, MatchOption};
 ghost use Rattle.sittings.specs.Numbers.{AreNumbers};
-ghost use Rattle.sittings.specs.Spoken.{texts, Means};
+ghost use Rattle.sittings.specs.Spoken.{texts, Means, MeansNothing, MeansAtMostNumbers, NumbersMeanNothing};
 
 use crate::numbers::{number, numbers, word};
 use crate::request::Request;
@@ -19,7 +19,7 @@ pub enum Command<'a> {
 
 // The one word that is given.
 fn only<'a>(given: &[&'a str]) -> Option<&'a str>
-    ensures { IfSome result (λ w. texts given.now ≡ w.now ∷ []) }
+    ensures { MatchOption result ((w : List ℕ) → texts given.now ≡ w ∷ [] → ⊥) (λ w. texts given.now ≡ w.now ∷ []) }
 {
     match given {
         [word] => Some(word),
@@ -29,7 +29,7 @@ fn only<'a>(given: &[&'a str]) -> Option<&'a str>
 
 // A request to which nothing is given.
 fn bare<'a>(given: &[&str], request: Request) -> Option<Command<'a>>
-    ensures { IfSome result (λ c. (texts given.now ≡ []) × (c ≡ Command.Ask request)) }
+    ensures { MatchOption result (texts given.now ≡ [] → ⊥) (λ c. (texts given.now ≡ []) × (c ≡ Command.Ask request)) }
 {
     match given {
         [] => Some(Command::Ask(request)),
@@ -37,13 +37,10 @@ fn bare<'a>(given: &[&str], request: Request) -> Option<Command<'a>>
     }
 }
 
-// A function, an index and a word.
-fn set<'a>(given: &[&str]) -> Option<Command<'a>>
-    ensures { IfSome result (Means (codes "set") (texts given.now)) }
+// The entry that a function, an index and a word say.
+fn entry<'a>(function: &str, index: &str, text: &str) -> Option<Command<'a>>
+    ensures { MatchOption result ((given : List (List ℕ)) → given ≡ function.now ∷ index.now ∷ text.now ∷ [] → MeansAtMostNumbers (codes "set") given) (λ c. (given : List (List ℕ)) → given ≡ function.now ∷ index.now ∷ text.now ∷ [] → Means (codes "set") given c) }
 {
-    let [function, index, text] = given else {
-        return None;
-    };
     Some(Command::Ask(Request::Set {
         function: number(function)?,
         index: number(index)?,
@@ -51,9 +48,20 @@ fn set<'a>(given: &[&str]) -> Option<Command<'a>>
     }))
 }
 
+// The same, if just three words are given.
+#[tactic(auto, using(crate::proofs::Sets::other_count, std::proofs::lemmas::Grind::common_steps))]
+fn set<'a>(given: &[&str]) -> Option<Command<'a>>
+    ensures { MatchOption result (MeansAtMostNumbers (codes "set") (texts given.now)) (Means (codes "set") (texts given.now)) }
+{
+    match given {
+        [function, index, text] => entry(function, index, text),
+        _ => None,
+    }
+}
+
 // A command to which something else than numbers is given.
 fn worded<'a>(name: &str, given: &[&'a str]) -> Option<Command<'a>>
-    ensures { IfSome result (Means name.now (texts given.now)) }
+    ensures { MatchOption result (MeansAtMostNumbers name.now (texts given.now)) (Means name.now (texts given.now)) }
 {
     match name {
         "read" => Some(Command::Read(only(given)?)),
@@ -68,7 +76,7 @@ fn worded<'a>(name: &str, given: &[&'a str]) -> Option<Command<'a>>
 
 // A command to which numbers are given.
 fn numbered<'a>(name: &str, numbers: Vec<usize>) -> Option<Command<'a>>
-    ensures { IfSome result (λ c. (given : List (List ℕ)) → AreNumbers given numbers.items → Means name.now given c) }
+    ensures { MatchOption result (NumbersMeanNothing name.now numbers.items) (λ c. (given : List (List ℕ)) → AreNumbers given numbers.items → Means name.now given c) }
 {
     match (name, numbers.as_slice()) {
         ("open", [code]) => Some(Command::Open(*code)),
@@ -89,7 +97,7 @@ pub(crate) fn spoken<'a>(
     name: &str,
     given: &[&'a str],
 ) -> Result<Option<Command<'a>>, AllocError>
-    ensures { IfOk result (λ r. IfSome r (Means name.now (texts given.now))) }
+    ensures { IfOk result (λ r. MatchOption r (MeansNothing name.now (texts given.now)) (Means name.now (texts given.now))) }
 {
     if let Some(command) = worded(name, given) {
         return Ok(Some(command));

@@ -1,5 +1,6 @@
 // The numbers of a line.
-ghost use Rattle.std.specs.Prelude.{ℕ, SomeIff, MatchOption, IfOk, IfSome};
+ghost use Rattle.std.specs.Prelude.{ℕ, SomeIff, MatchOption, IfOk};
+ghost use Rattle.std.specs.List.{AllByRecursion};
 ghost use Rattle.sittings.specs.Numbers as say;
 ghost use Rattle.sittings.specs.Spoken.{texts};
 
@@ -12,8 +13,9 @@ pub(crate) fn number(text: &str) -> Option<usize>
 }
 
 // All texts as numbers, if each is one.
+#[tactic(auto, using(crate::proofs::Counting::number_at))]
 pub(crate) fn numbers(alloc: Global, list: &[&str]) -> Result<Option<Vec<usize>>, AllocError>
-    ensures { IfOk result (λ r. IfSome r (λ v. say.AreNumbers (texts list.now) v.items)) }
+    ensures { IfOk result (λ r. MatchOption r (AllByRecursion say.IsNumber (texts list.now) → ⊥) (λ v. say.AreNumbers (texts list.now) v.items)) }
 {
     let mut numbers = Vec::new(alloc);
     for text in list {
