@@ -16,11 +16,12 @@ mod tests {
 
     // Three variables of these sizes, and a function of all three.
     fn cube(a: usize, b: usize, c: usize) -> Result<Layout, ProblemFault> {
-        let layout = Layout::empty()
-            .with_variable(a)?
-            .with_variable(b)?
-            .with_variable(c)?;
-        layout.with_function(&[0, 1, 2])
+        let mut layout = Layout::empty();
+        layout.add_variable(a)?;
+        layout.add_variable(b)?;
+        layout.add_variable(c)?;
+        layout.add_function(&[0, 1, 2])?;
+        Ok(layout)
     }
 
     #[test]

@@ -130,20 +130,4 @@ impl Layout {
         self.scopes.push(scope);
         self.starts[self.scopes.len()] = end;
     }
-
-    // The layout with one more variable, with a domain of this size.
-    pub fn with_variable(mut self, size: usize) -> Result<Layout, ProblemFault>
-        ensures { Answered problem_number (variable_tests (length (domains_of self)) size) (λ l. (domains_of l ≡ domains_of self ++ (size ∷ [])) × (scopes_of l ≡ scopes_of self)) result }
-    {
-        self.add_variable(size)?;
-        Ok(self)
-    }
-
-    // The layout with one more function, of this scope.
-    pub fn with_function(mut self, scope: &[usize]) -> Result<Layout, ProblemFault>
-        ensures { Answered problem_number (function_tests (domains_of self) (length (scopes_of self)) (words_in self) scope.now) (λ l. (domains_of l ≡ domains_of self) × (scopes_of l ≡ scopes_of self ++ (scope.now ∷ []))) result }
-    {
-        self.add_function(scope)?;
-        Ok(self)
-    }
 }
