@@ -101,7 +101,8 @@ impl Scale for Ranked {
     }
 
     fn at_least(self, other: Ranked) -> bool {
-        (other.first, other.second) <= (self.first, self.second)
+        // (`|` and `&` take no branch: which value is higher is not foreseen)
+        (other.first < self.first) | ((other.first == self.first) & (other.second <= self.second))
     }
 
     fn join(self, other: Ranked) -> Ranked {
