@@ -1,6 +1,6 @@
 // Points: whole numbers, which joining adds.
 ghost use Rattle.std.specs.Prelude.{◌≡◌, ◌*◌, ℤ, ◌+ℤ◌, ◌-ℤ◌, refl, is_ok, IfOk};
-ghost use Rattle.std.specs.Int.{saturate_to_bits};
+ghost use Rattle.std.specs.Int.{w32, int_wrapping_add, int_wrapping_sub};
 ghost use Rattle.scale.specs.Points.{points, points_entry, points_reads, Span};
 ghost use Rattle.scale.specs.Whole.{whole_laws};
 ghost use Rattle.std.proofs.Common.{arith, rules};
@@ -26,20 +26,20 @@ fn entry(word: u32) -> Result<Points, ScaleFault>
     }
 }
 
-// The machine's sum and difference, cut where they pass its range; few enough entries never do.
+// The machine's sum and difference, wrapped where they pass its range; few enough entries never do, and to wrap costs least.
 fn plus(a: Points, b: Points) -> Points
-    ensures { result.value ≡ saturate_to_bits 31 (a.value +ℤ b.value) }
+    ensures { result.value ≡ int_wrapping_add w32 a.value b.value }
 {
     Points {
-        value: a.value.saturating_add(b.value),
+        value: a.value.wrapping_add(b.value),
     }
 }
 
 fn minus(a: Points, b: Points) -> Points
-    ensures { result.value ≡ saturate_to_bits 31 (a.value -ℤ b.value) }
+    ensures { result.value ≡ int_wrapping_sub w32 a.value b.value }
 {
     Points {
-        value: a.value.saturating_sub(b.value),
+        value: a.value.wrapping_sub(b.value),
     }
 }
 
