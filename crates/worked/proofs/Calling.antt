@@ -1,11 +1,13 @@
 -- Calls worked through. Assumes nothing.
-use Rattle.std.proofs.Common.{◌≡◌, ℕ, ◌<◌, ◌≤◌, List, [], ◌∷◌, get_or, refl, ◌⊎◌, sym, inl, inr, ⊎_elim, arith}
+use Rattle.std.proofs.Common.{◌≡◌, ℕ, ◌<◌, ◌≤◌, List, None, [], ◌∷◌, get_or, refl, ◌⊎◌, sym, inl, inr, ⊎_elim, ℤ, arith}
 use Rattle.std.proofs.lemmas.Bool.{false≢true}
+use Rattle.scale.specs.Points.{points}
 use Rattle.theory.specs.Problem.{size, scope_of}
 use Rattle.theory.specs.Sizes.{all_words}
+use Rattle.calls.specs.State.{State, Call, Answer}
 use Rattle.calls.specs.Step.{Step}
 use Rattle.worked.proofs.TwoByTwo.{two}
-use Rattle.worked.specs.Calls.{FirstAnswers, CallsBuild}
+use Rattle.worked.specs.Calls.{FirstAnswers, CallsBuild, CallsWithdraw}
 
 pub first_answers : FirstAnswers
 unfolding size scope_of
@@ -57,3 +59,15 @@ calls_build =
         ),
       ),
     )
+
+variable_withdraws : (s t : State ℤ) (n number : ℕ) → Step points s (Call.add_variable n) (Answer.number number) t → t.report ≡ None
+variable_withdraws s t n number (Step.variable_added ok) = refl
+
+function_withdraws : (s t : State ℤ) (scope : List ℕ) (number : ℕ) → Step points s (Call.add_function scope) (Answer.number number) t → t.report ≡ None
+function_withdraws s t scope number (Step.function_added ok) = refl
+
+entry_withdraws : (s t : State ℤ) (f index word : ℕ) → Step points s (Call.set_entry f index word) Answer.done t → t.report ≡ None
+entry_withdraws s t f index word (Step.entry_set ok) = refl
+
+pub calls_withdraw : CallsWithdraw
+calls_withdraw s t = record { variable = variable_withdraws s t; function = function_withdraws s t; entry = entry_withdraws s t }

@@ -1,11 +1,11 @@
 -- Examples of calls worked through, in points. Assumes nothing.
-use Rattle.std.specs.Prelude.{ℕ, [], ◌∷◌, ℤ}
+use Rattle.std.specs.Prelude.{◌≡◌, ℕ, List, [], ◌∷◌, None, ℤ}
 use Rattle.scale.specs.Points.{points}
 use Rattle.theory.specs.Problem.{no_problem}
 use Rattle.theory.specs.KeptBy.{straight}
 use Rattle.theory.specs.Refusals.{First}
-use Rattle.calls.specs.State.{Call, Answer}
-use Rattle.calls.specs.Step.{Runs, unreported}
+use Rattle.calls.specs.State.{State, Call, Answer}
+use Rattle.calls.specs.Step.{Step, Runs, unreported}
 use Rattle.calls.specs.Tests.{tests}
 use Rattle.worked.specs.Table.{pair}
 
@@ -43,3 +43,12 @@ CallsBuild =
     (Call.set_entry 0 4 7, Answer.done) ∷
     (Call.set_entry 1 0 7, Answer.refused 9) ∷ [])
     (unreported (record { domains = 2 ∷ 3 ∷ []; tables = record { scope = 0 ∷ 1 ∷ []; words = 0 ∷ 0 ∷ 0 ∷ 0 ∷ 7 ∷ 0 ∷ [] } ∷ [] }))
+
+-- After an accepted add or set no report stands, whichever stood before.
+pub record Withdrawn (s t : State ℤ) : Type 0 where
+  pub variable : (size number : ℕ) → Step points s (Call.add_variable size) (Answer.number number) t → t.report ≡ None
+  pub function : (scope : List ℕ) (number : ℕ) → Step points s (Call.add_function scope) (Answer.number number) t → t.report ≡ None
+  pub entry : (f index word : ℕ) → Step points s (Call.set_entry f index word) Answer.done t → t.report ≡ None
+
+abbrev pub CallsWithdraw : Type 0
+CallsWithdraw = (s t : State ℤ) → Withdrawn s t

@@ -2,7 +2,7 @@
 #![tactic(auto)]
 
 ghost use Rattle.std.specs.Prelude.{◌≡◌};
-ghost use Rattle.worked.specs.Calls.{FirstAnswers, CallsBuild};
+ghost use Rattle.worked.specs.Calls.{FirstAnswers, CallsBuild, CallsWithdraw};
 ghost use Rattle.worked.specs.Laws.{GenerousGap, SameByValues};
 ghost use Rattle.worked.specs.Limits.{Limits, NotWithin};
 ghost use Rattle.worked.specs.Cells.{PairStores};
@@ -62,11 +62,12 @@ fn pair_stored() -> u8
 
 // The lines that speak of calls.
 fn called() -> u8
-    ensures count { result ≡ 2 }
+    ensures count { result ≡ 3 }
     ensures first { FirstAnswers }
     ensures build { CallsBuild }
+    ensures withdraw { CallsWithdraw }
 {
-    2
+    3
 }
 
 // How many examples the table has. Each line of it is a clause.
@@ -98,9 +99,10 @@ pub fn report_examples() -> u8
 
 // How many examples speak of calls, and of the share that they tell.
 pub fn call_examples() -> u8
-    ensures count { result ≡ 3 }
+    ensures count { result ≡ 4 }
     ensures first { FirstAnswers }
     ensures build { CallsBuild }
+    ensures withdraw { CallsWithdraw }
     ensures share_none { ShareNone }
 {
     1 + called()
