@@ -1,11 +1,24 @@
 -- Facts of the order and the sum of ℤ that the laws of the scales need. Assumes nothing.
-use Rattle.std.specs.Prelude.{◌≡◌, ◌≤◌, ℤ, pos, negsuc, ◌+ℤ◌, ◌-ℤ◌, ◌≤ℤ◌, int_le}
+use Rattle.std.specs.Prelude.{◌≡◌, ◌≤◌, true, false, ℤ, pos, negsuc, ◌+ℤ◌, ◌-ℤ◌, ◌≤ℤ◌, ◌<ℤ◌, int_le}
 use Rattle.std.proofs.Common.{ap, inl, inr, ⊎_elim, arith}
 use Rattle.std.proofs.lemmas.Bool.{cases_Bool}
 use Rattle.std.proofs.lemmas.Int.{ints}
 use Rattle.std.specs.Int.{saturate_to_bits}
 use Rattle.scale.specs.Laws.{PlainLaws, GapLaws, Strictness}
 use Rattle.scale.specs.Points.{points_gap}
+
+-- The test of the order says the same as the order, both ways.
+pub leZ_in : (a b : ℤ) → int_le a b ≡ true → a ≤ℤ b
+leZ_in a b h = grind (arith, ints)
+
+pub leZ_out : (a b : ℤ) → a ≤ℤ b → int_le a b ≡ true
+leZ_out a b h = grind (arith, ints)
+
+pub leZ_not : (a b : ℤ) → int_le a b ≡ false → b <ℤ a
+leZ_not a b h = grind (arith, ints)
+
+pub leZ_lt : (a b : ℤ) → b <ℤ a → int_le a b ≡ false
+leZ_lt a b h = grind (arith, ints)
 
 -- what fits is not cut
 pub saturated_is : (z : ℤ) → negsuc 2147483647 ≤ℤ z → z ≤ℤ pos 2147483647 → saturate_to_bits 31 z ≡ z

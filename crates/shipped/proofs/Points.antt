@@ -2,7 +2,7 @@
 use Rattle.std.proofs.Common.{◌≡◌, ℕ, zero, suc, ◌*◌, ◌<◌, Bool, true, false, ◌&&◌, if◌then◌else◌, ℤ, pos, ◌+ℤ◌, ◌-ℤ◌, ◌≤ℤ◌, int_le, sym, refl, ap, ◌∙◌, ap₂, subst, arith}
 use Rattle.std.proofs.lemmas.Int.{ints}
 use Rattle.scale.specs.Points.{points}
-use Rattle.scale.specs.Whole.{whole_laws, whole_gaps}
+use Rattle.scale.specs.Whole.{leZ_in, whole_laws, whole_gaps}
 use Rattle.theory.specs.Joins.{joins, when}
 use Rattle.theory.specs.Problem.{Problem, Plan, Valid, Sound, functions, entry, score}
 use Rattle.theory.specs.Graphs.{set_weight}
@@ -27,9 +27,6 @@ when_is : (b : Bool) (z : ℤ) → when points b z ≡ (if b then z else pos 0)
 when_is true z = refl
 when_is false z = refl
 
-at_most : (a b : ℤ) → int_le a b ≡ true → a ≤ℤ b
-at_most a b h = grind (arith, ints)
-
 less_mono : (a a' b b' : ℤ) → int_le a a' ≡ true → int_le b' b ≡ true → int_le (a -ℤ b) (a' -ℤ b') ≡ true
 less_mono a a' b b' h k = grind (arith, ints)
 
@@ -52,7 +49,7 @@ module _ (P : Problem) where
       let lowest = is_cut f y k valid in
       let (z, ok, is) = lowest.attained in record {
         attained = (record { plan = z; valid = ok.0; same = ok.1 }, sym (entry_is f z) ∙ is);
-        least = λ z. subst (λ (n : ℤ). cut f y ≤ℤ n) (entry_is f z.plan) (at_most _ _ (lowest.bound z.plan (z.valid, z.same)));
+        least = λ z. subst (λ (n : ℤ). cut f y ≤ℤ n) (entry_is f z.plan) (leZ_in _ _ (lowest.bound z.plan (z.valid, z.same)));
       }
 
 pub points_promised : PointsPromise points
@@ -63,34 +60,34 @@ points_promised start calls state begins runs standing is =
     let sound = (stays_within points start calls state begins runs).sound in record {
       valid = g.plainly.valid;
       scored = g.plainly.scored ∙ score_is P _;
-      at_most_ceiling = λ y valid. subst (λ (z : ℤ). z ≤ℤ standing.figures.ceiling) (score_is P y) (at_most _ _ (g.plainly.at_most_ceiling y valid));
-      not_below_tree = at_most _ _ g.plainly.not_below_tree;
+      at_most_ceiling = λ y valid. subst (λ (z : ℤ). z ≤ℤ standing.figures.ceiling) (score_is P y) (leZ_in _ _ (g.plainly.at_most_ceiling y valid));
+      not_below_tree = leZ_in _ _ g.plainly.not_below_tree;
       ceiling_is = s.ceiling_is;
       reached = s.reached;
       kept = g.plainly.kept;
       kept_told = g.plainly.kept_told;
       cut = g.plainly.cut;
       cut_is = least_is P g.plainly.is_cut;
-      at_most_tree = λ y valid. subst (λ (z : ℤ). z ≤ℤ standing.figures.tree) (sum_is (functions P) _) (at_most _ _ (g.plainly.at_most_tree y valid));
+      at_most_tree = λ y valid. subst (λ (z : ℤ). z ≤ℤ standing.figures.tree) (sum_is (functions P) _) (leZ_in _ _ (g.plainly.at_most_tree y valid));
       reaches_tree = sym (sum_is (functions P) _) ∙ g.plainly.reaches_tree;
       weight = g.weight;
       weights = λ f p k place. weight_is P sound f p _ (g.weights f p k place);
       removed_clear = g.removed_clear;
       removed_weigh = sym g.removed_weigh ∙ links_are P g.weight _;
-      at_least_removed = λ links clears. subst (λ (z : ℤ). standing.figures.removed ≤ℤ z) (links_are P g.weight links) (at_most _ _ (g.at_least_removed links clears));
+      at_least_removed = λ links clears. subst (λ (z : ℤ). standing.figures.removed ≤ℤ z) (links_are P g.weight links) (leZ_in _ _ (g.at_least_removed links clears));
     }
   where
     weight_is : (P : Problem) → Sound P → (f p : ℕ) (w : ℤ) → Weighs points P f p w → PointsWeight P f p w
     weight_is P sound f p w g =
         let (c, is) = attained points whole_laws ◌-ℤ◌ gap_is less_mono P sound f p w g in record {
           attained = (c, ap₂ ◌-ℤ◌ (sym (entry_is P f _)) (sym (entry_is P f _)) ∙ is);
-          most = λ c. subst (λ (z : ℤ). z ≤ℤ w) (ap₂ ◌-ℤ◌ (entry_is P f _) (entry_is P f _)) (at_most _ _ (most points whole_laws ◌-ℤ◌ gap_is less_mono P sound f p w g c));
+          most = λ c. subst (λ (z : ℤ). z ≤ℤ w) (ap₂ ◌-ℤ◌ (entry_is P f _) (entry_is P f _)) (leZ_in _ _ (most points whole_laws ◌-ℤ◌ gap_is less_mono P sound f p w g c));
         }
 
 pub points_are : AreWhole points (λ p. p.value)
 points_are = record {
   means_is = λ p. refl;
-  order = λ a b. (at_most a b, λ h. grind (arith, ints));
+  order = λ a b. (leZ_in a b, λ h. grind (arith, ints));
   join = λ a b. refl;
   neutral = refl;
   gap = λ a b h. gap_is a b (grind (arith, ints));
