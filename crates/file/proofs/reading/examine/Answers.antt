@@ -57,13 +57,12 @@ unfolding after_header layout_tests_of words_tests_of
 returns-in_err-read_layout g c =
     let R = g.V.Scale.rules in
     let bs = c.args.bytes.now in
-    let h = c.in_ok-header.header in
-    let head = c.in_ok-header.ensures in
+    let h = c.args.header in
     let parts = c.cut-sections.ensures in
     let f = c.in_err-read_layout.field-0.0 in
-    let e = err_from_is_err_and c.from_residual-in_err-read_layout.result c.from_residual-in_err-read_layout.ensures.1 in
-    let none = subst (λ (n : ℕ). NoneFits (header_tests n bs)) c.code.ensures head.0 in
-    let same = layout_same R bs _ _ _ h head.1.counted parts.domains parts.scopes parts.entries parts.lengths in
+    let e = err_from_is_err_and c.from_residual.result c.from_residual.ensures.1 in
+    let none = c.requires.none in
+    let same = layout_same R bs _ _ _ h c.requires.told.counted parts.domains parts.scopes parts.entries parts.lengths in
     let here = subst (λ (ts : List ((ℕ × ℕ) × Type 0)). First ts (refusal f)) same c.in_err-read_layout.ensures in
     rw (e.1, e.2) (first_after (header_tests R.code bs) (after_header R bs) (refusal f) none (first_before (layout_tests_of bs) (words_tests_of R bs) (refusal f) here))
 
@@ -72,15 +71,14 @@ unfolding after_header layout_tests_of words_tests_of
 returns-in_err-test_words g c =
     let R = g.V.Scale.rules in
     let bs = c.args.bytes.now in
-    let h = c.in_ok-header.header in
-    let head = c.in_ok-header.ensures in
+    let h = c.args.header in
     let parts = c.cut-sections.ensures in
     let f = c.in_err-test_words.field-0.0 in
     let e = err_from_is_err_and c.from_residual-in_err-test_words.result c.from_residual-in_err-test_words.ensures.1 in
-    let none = subst (λ (n : ℕ). NoneFits (header_tests n bs)) c.code.ensures head.0 in
-    let same = layout_same R bs _ _ _ h head.1.counted parts.domains parts.scopes parts.entries parts.lengths in
+    let none = c.requires.none in
+    let same = layout_same R bs _ _ _ h c.requires.told.counted parts.domains parts.scopes parts.entries parts.lengths in
     let layout_none = subst (λ (ts : List ((ℕ × ℕ) × Type 0)). NoneFits ts) same c.in_ok-read_layout.ensures.0 in
-    let words = words_same R bs _ _ _ h head.1.counted parts.domains parts.scopes parts.entries parts.lengths c.entries_place.result c.entries_place.ensures in
+    let words = words_same R bs _ _ _ h c.requires.told.counted parts.domains parts.scopes parts.entries parts.lengths c.entries_place.result c.entries_place.ensures in
     let here = subst (λ (ts : List ((ℕ × ℕ) × Type 0)). First ts (refusal f)) words c.in_err-test_words.ensures in
     rw (e.1, e.2) (first_after (header_tests R.code bs) (after_header R bs) (refusal f) none (first_after (layout_tests_of bs) (words_tests_of R bs) (refusal f) layout_none here))
 
@@ -89,14 +87,13 @@ unfolding after_header layout_tests_of words_tests_of
 returns g c =
     let R = g.V.Scale.rules in
     let bs = c.args.bytes.now in
-    let h = c.in_ok-header.header in
+    let h = c.args.header in
     let few = h.few in
-    let head = c.in_ok-header.ensures in
     let parts = c.cut-sections.ensures in
-    let told = head.1 in
+    let told = c.requires.told in
     let counted = told.counted in
     let after = c.in_ok-read_layout.ensures in
-    let none = subst (λ (n : ℕ). NoneFits (header_tests n bs)) c.code.ensures head.0 in
+    let none = c.requires.none in
     let same = layout_same R bs _ _ _ h counted parts.domains parts.scopes parts.entries parts.lengths in
     let layout_none = subst (λ (ts : List ((ℕ × ℕ) × Type 0)). NoneFits ts) same after.0 in
     let words = words_same R bs _ _ _ h counted parts.domains parts.scopes parts.entries parts.lengths c.entries_place.result c.entries_place.ensures in
