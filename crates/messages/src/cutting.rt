@@ -28,7 +28,7 @@ fn lay_along<V: Scale>(places: &Places, table: &[u32], at: usize, key: usize, wo
     requires laid { CutTo V.Scale.rules places.now table.now at words.old }
     ensures { CutTo V.Scale.rules places.now table.now (at + (place_in places.now (count_in places.now - 1)).size) words.new }
 {
-    for x in 0..places.last().size {
+    for x in 0..places.last().size as usize {
         let word = table[at + x];
         words[key + x] = if key == at {
             word
@@ -54,7 +54,7 @@ fn lay_lowest<V: Scale>(places: &Places, table: &[u32], at: usize, key: usize, w
     } else {
         lower::<V>(words[key], table[at])
     };
-    for x in 1..places.last().size {
+    for x in 1..places.last().size as usize {
         low = lower::<V>(low, table[at + x]);
     }
     words[key] = low;
@@ -70,10 +70,11 @@ pub(crate) fn lay_cut<V: Scale>(places: &Places, table: &[u32], words: &mut [u32
 {
     let outer = places.outer();
     let last = places.last();
+    let size = last.size as usize;
     let mut values = outer.combination(0);
-    for number in 0..table.len() / last.size {
-        let at = number * last.size;
-        let key = outer.cut_index(&values) * last.size;
+    for number in 0..table.len() / size {
+        let at = number * size;
+        let key = outer.cut_index(&values) * size;
         if last.kept {
             lay_along::<V>(places, table, at, key, words);
         } else {

@@ -193,12 +193,13 @@ pub(crate) fn best_entries<V: Scale>(
 {
     let outer = places.outer();
     let last = places.last();
+    let size = last.size as usize;
     let mut best = [None; ROW];
     let mut combination = outer.combination(0);
-    for number in 0..cuts.len() / last.size {
+    for number in 0..cuts.len() / size {
         if outer.cut_index(&combination) == number {
             let row = Row {
-                at: number * last.size,
+                at: number * size,
                 many: last.counted(),
                 up: from_below(&outer, values, &combination),
             };

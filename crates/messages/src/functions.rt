@@ -36,7 +36,7 @@ fn send_entries<V: Scale>(
     ensures same { SameLent values.old values.new × SameLent choices.old choices.new }
 {
     let best = best_entries(places, function, cuts, values);
-    let size = places.place(places.parent()).size;
+    let size = places.place(places.parent()).size as usize;
     write_choices(&best[..size], function, choices);
 }
 

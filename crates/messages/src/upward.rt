@@ -24,7 +24,7 @@ pub(crate) fn from_below<V: Scale>(
     let mut sum = V::neutral();
     for (p, place) in places.list().iter().enumerate() {
         if place.below {
-            sum = sum.join(values.get(place.variable, combination[p]));
+            sum = sum.join(values.get(place.variable as usize, combination[p]));
         }
     }
     sum
@@ -38,7 +38,7 @@ pub(crate) fn with_below<V: Scale>(word: u32, up: V, last: &Place, x: usize, val
     ensures { WithBelow V.Scale.rules V.Scale.means V.Scale.within values.now.cells.now word up last.now x result }
 {
     let below = if last.below {
-        up.join(values.get(last.variable, x))
+        up.join(values.get(last.variable as usize, x))
     } else {
         up
     };

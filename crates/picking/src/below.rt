@@ -25,7 +25,7 @@ fn taken(
     ensures values { slice_index choices.now.cells.now (choice_cell function (planned draft.now.values (place_in places.now places.now.parent).variable)) < product (sizes_in places.now) → take (count_in places.now) result ≡ combination (sizes_in places.now) (slice_index choices.now.cells.now (choice_cell function (planned draft.now.values (place_in places.now places.now.parent).variable))) }
     ensures fits { (p : ℕ) → p < count_in places.now → slice_index result p < (place_in places.now p).size }
 {
-    let parent = places.place(places.parent()).variable;
+    let parent = places.place(places.parent()).variable as usize;
     let index = choices.get(function, draft.value(parent));
     places.combination(index as usize)
 }
@@ -38,7 +38,7 @@ fn give_below(draft: &mut Draft, places: &Places, values: [usize; MOST_PLACES])
 {
     for (p, place) in places.list().iter().enumerate() {
         if place.below {
-            draft.give(place.variable, values[p]);
+            draft.give(place.variable as usize, values[p]);
         }
     }
 }

@@ -16,8 +16,8 @@ impl Places {
         let mut values = [0; MOST_PLACES];
         let mut rest = index;
         for (p, place) in self.list().iter().enumerate().rev() {
-            values[p] = rest % place.size;
-            rest /= place.size;
+            values[p] = rest % place.size as usize;
+            rest /= place.size as usize;
         }
         values
     }
@@ -39,7 +39,7 @@ impl Places {
         let mut index = 0;
         for (p, place) in self.list().iter().enumerate() {
             let value = if place.kept { values[p] } else { 0 };
-            index = index * place.size + value;
+            index = index * place.size as usize + value;
         }
         index
     }
@@ -53,7 +53,7 @@ impl Places {
         let mut carry = 1;
         for (p, place) in self.list().iter().enumerate().rev() {
             let value = values[p] + carry;
-            let full = value >= place.size;
+            let full = value >= place.size as usize;
             values[p] = if full { 0 } else { value };
             carry = if full { 1 } else { 0 };
         }

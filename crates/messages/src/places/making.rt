@@ -35,12 +35,11 @@ impl Places {
             below: false,
         });
         for (p, variable) in tables.layout.scope(function).iter().enumerate() {
-            let variable = *variable as usize;
             list.push(Place {
-                variable,
-                size: tables.layout.domains()[variable] as usize,
+                variable: *variable,
+                size: tables.layout.domains()[*variable as usize],
                 kept: kept.holds(MOST_PLACES * function + p),
-                below: hangs_from(hung, variable, function),
+                below: hangs_from(hung, *variable as usize, function),
             });
         }
         Places {

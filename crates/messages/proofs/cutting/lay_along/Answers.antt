@@ -20,7 +20,7 @@ loop-x-preserved g c =
     let there = c.args.key + x in
     let r = c.if-key-at.words in
     let new = get_or table (at + x) 0 in
-    let size = ap (λ (a : Place). a.size) c.last-x-end.ensures in
+    let size = ap (λ (a : Place). a.size) c.last.ensures in
     let low = c.loop-x-test.true in
     let long : length words ≡ length table = c.loop-x.auto.words ∙ c.requires.words in
     subst (λ (i : ℕ). CutTo v.rules s table i (set words there r)) (omega arith)
@@ -36,5 +36,5 @@ loop-x-preserved g c =
 
 pub returns : goal.returns
 returns g c =
-    let end : c.loop-x.x ≡ (place_in c.args.places.now (count_in c.args.places.now - 1)).size = omega (arith, c.loop-x-test.false, c.loop-x.auto.x-end, ap (λ (a : Place). a.size) c.last-x-end.ensures) in
+    let end : c.loop-x.x ≡ (place_in c.args.places.now (count_in c.args.places.now - 1)).size = omega (arith, c.loop-x-test.false, c.loop-x.auto.x-end, ap (λ (a : Place). a.size) c.last.ensures) in
     subst (λ (x : ℕ). CutTo g.V.Scale.rules c.args.places.now c.args.table.now (c.args.at + x) c.loop-x.words) end c.loop-x.invariant
