@@ -1,11 +1,24 @@
 // Combinations of values at the places of a function.
-ghost use Rattle.std.specs.Prelude.{◌≡◌, ℕ, ◌+◌, ◌<◌, take, slice_index};
+ghost use Rattle.std.specs.Prelude.{◌≡◌, ℕ, ◌+◌, ◌/◌, ◌%◌, ◌<◌, take, slice_index};
 ghost use Rattle.theory.specs.Problem.{product, index};
 ghost use Rattle.messages.specs.Combinations.{combination, cleared};
 ghost use Rattle.messages.specs.Places.{place_in, count_in, sizes_in};
 
 use crate::places::Places;
 use layout::MOST_PLACES;
+
+// A number divided by a size, and what that leaves over. Most numbers here are below the size, and to compare first is quicker than to divide.
+fn parted(number: usize, size: usize) -> (usize, usize)
+    requires { 0 < size }
+    ensures quotient { result.0 ≡ number / size }
+    ensures left { result.1 ≡ number % size }
+{
+    if number < size {
+        (0, number)
+    } else {
+        (number / size, number % size)
+    }
+}
 
 impl Places {
     // From the last place on, each value is what the size of its place leaves over.
@@ -16,8 +29,9 @@ impl Places {
         let mut values = [0; MOST_PLACES];
         let mut rest = index;
         for (p, place) in self.list().iter().enumerate().rev() {
-            values[p] = rest % place.size as usize;
-            rest /= place.size as usize;
+            let (more, left) = parted(rest, place.size as usize);
+            values[p] = left;
+            rest = more;
         }
         values
     }

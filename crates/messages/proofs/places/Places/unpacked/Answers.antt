@@ -49,7 +49,8 @@ loop-p-preserved c =
     let below : p < count_in s = omega (arith, inv.1) in
     let told : last.size ≡ (place_in s p).size = ap (λ (x : Place). x.size) (sym (ap (λ (places : List Place). get_or places p no_place) grown ∙ get_or_push after last no_place p num) ∙ inv.2 p (omega arith)) in
     let some-size : 1 ≤ last.size = omega (arith, told, (s.small p below).1) in
-    let digit = c.loop-p.rest % last.size in
+    let digit = c.parted-more.result.1 in
+    let parted = c.parted-more.ensures in
     let here = size_is s p below ∙ sym told in
     let room : p < length vs = (let few = few_places s in omega (arith, inv.3)) in (
       same ∙ inv.0,
@@ -57,7 +58,7 @@ loop-p-preserved c =
       λ q h. sym (ap (λ (places : List Place). get_or places q no_place) grown ∙ get_or_append_left after _ no_place q h) ∙ inv.2 q (omega arith),
       length-set vs p digit ∙ inv.3,
       λ q least under. elim (cases_eq q p) [
-        | inl e ↦ rw e (subst (λ (n : ℕ). n < (place_in s p).size) (sym (get_or-set_same vs p digit 0 room)) (omega (arith, told, mod-lt c.loop-p.rest some-size)))
+        | inl e ↦ rw e (subst (λ (n : ℕ). n < (place_in s p).size) (sym (get_or-set_same vs p digit 0 room)) (omega (arith, told, parted.left, mod-lt c.loop-p.rest some-size)))
         | inr d ↦ subst (λ (n : ℕ). n < (place_in s q).size) (sym (get_or-set_other vs p q digit 0 d)) (inv.4 q (omega arith) under)
       ],
       λ h.
@@ -66,9 +67,9 @@ loop-p-preserved c =
           let (rest, done) = inv.5 h in
           let long = sizes_length s in
           let now-rest : c.loop-p.rest ≡ index (take (p + 1) sizes) (take (p + 1) xs) = rest ∙ ap (λ (n : ℕ). index (take n sizes) (take n xs)) some in (
-            ap₂ (λ (n m : ℕ). n / m) now-rest (sym here) ∙ rest_value sizes xs w p (omega arith) ∙ ap (λ (n : ℕ). index (take n sizes) (take n xs)) (sym num),
+            parted.quotient ∙ ap₂ (λ (n m : ℕ). n / m) now-rest (sym here) ∙ rest_value sizes xs w p (omega arith) ∙ ap (λ (n : ℕ). index (take n sizes) (take n xs)) (sym num),
             λ q least under. elim (cases_eq q p) [
-              | inl e ↦ rw e (get_or-set_same vs p digit 0 room ∙ ap₂ (λ (n m : ℕ). n % m) now-rest (sym here) ∙ last_value sizes xs w p (omega arith))
+              | inl e ↦ rw e (get_or-set_same vs p digit 0 room ∙ parted.left ∙ ap₂ (λ (n m : ℕ). n % m) now-rest (sym here) ∙ last_value sizes xs w p (omega arith))
               | inr d ↦ get_or-set_other vs p q digit 0 d ∙ done q (omega arith) under
             ],
           ),
